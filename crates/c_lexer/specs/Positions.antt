@@ -1,0 +1,24 @@
+-- Where a byte stands in a text: how many bytes are before it, and its line and column, counted from 1.
+use Rattle.std.specs.Prelude.{ℕ, ◌+◌, ◌==◌, if◌then◌else◌, List, [], ◌∷◌}
+use Rattle.c_lexer.specs.declared.token.Place.{Place}
+
+pub record Position : Type 0 where
+  pub offset : ℕ
+  pub line : ℕ
+  pub column : ℕ
+
+-- where a text begins
+abbrev pub start : Position
+start = record { offset = 0; line = 1; column = 1 }
+
+-- the position after a byte: a line feed ends its line
+unfoldable pub step : Position → ℕ → Position
+step p c = if c == 10 then record { offset = p.offset + 1; line = p.line + 1; column = 1 } else record { offset = p.offset + 1; line = p.line; column = p.column + 1 }
+
+-- the position after these bytes
+unfoldable pub after : Position → List ℕ → Position
+after p [] = p
+after p (c ∷ cs) = after (step p c) cs
+
+abbrev pub place_of : Position → Place
+place_of p = record { line = p.line; column = p.column }

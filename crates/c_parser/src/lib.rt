@@ -1,0 +1,4 @@
+//! Concrete trees of C, and their readers.
+#![tactic(auto)]
+
+pub mod tree;
