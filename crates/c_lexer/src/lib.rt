@@ -1,4 +1,6 @@
 //! Tokens of C, of annotations and of Ya.
 #![tactic(auto)]
 
+pub mod bytes;
+pub mod position;
 pub mod token;
