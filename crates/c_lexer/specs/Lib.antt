@@ -1,3 +1,4 @@
 pub mod Bytes
 pub mod Positions
 pub mod FirstTokens
+pub mod Fronts

@@ -2,5 +2,6 @@
 #![tactic(auto)]
 
 pub mod bytes;
+mod front;
 pub mod position;
 pub mod token;

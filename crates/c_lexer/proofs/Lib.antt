@@ -1,0 +1,4 @@
+pub mod ListLemmas
+pub mod TokenLemmas
+pub mod FirstTokenLemmas
+pub mod FrontLemmas
