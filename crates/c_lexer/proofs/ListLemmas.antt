@@ -40,14 +40,16 @@ pub list_all_weaker : (p q : ℕ → Bool) → ((c : ℕ) → p c ≡ true → q
 list_all_weaker p q h [] i = refl
 list_all_weaker p q h (x ∷ xs) i = both _ _ (h x (left _ _ i)) (list_all_weaker p q h xs (right _ _ i))
 
+add_one : (m n : ℕ) → m ≤ n → suc m ≤ 1 + n
+add_one m n h = omega arith
+
 -- the front that passes a test is as long as can be
 prefix_len_longest : (test : ℕ → Bool) (xs : List ℕ) (m : ℕ) → m ≤ length xs → list_all test (take m xs) ≡ true → m ≤ prefix_len test xs
 prefix_len_longest test xs zero le h = omega arith
 prefix_len_longest test [] (suc m) le h = absurd (omega arith)
 prefix_len_longest test (x ∷ xs) (suc m) le h =
-    let more : m ≤ prefix_len test xs = prefix_len_longest test xs m (omega arith) (right _ _ h) in
-    let e : test x ≡ true = left _ _ h in
-    subst (λ b. suc m ≤ cond b (1 + prefix_len test xs) 0) (sym e) (omega (arith, more))
+    subst (λ b. suc m ≤ cond b (1 + prefix_len test xs) 0) (sym (left (test x) _ h))
+        (add_one m (prefix_len test xs) (prefix_len_longest test xs m (omega arith) (right (test x) _ h)))
 
 cond_each : (test : ℕ → Bool) (x : ℕ) (xs : List ℕ) (n : ℕ) → list_all test (take n xs) ≡ true → (b : Bool) → test x ≡ b → list_all test (take (cond b (1 + n) 0) (x ∷ xs)) ≡ true
 cond_each test x xs n h true e = simp one-add (both _ _ e h)

@@ -2,6 +2,7 @@
 #![tactic(auto)]
 
 pub mod bytes;
+pub mod first;
 mod front;
 pub mod position;
 pub mod token;
