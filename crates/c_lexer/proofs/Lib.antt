@@ -4,3 +4,4 @@ pub mod FirstTokenLemmas
 pub mod FrontLemmas
 pub mod PositionLemmas
 pub mod FoundLemmas
+pub mod FirstTokenLaws

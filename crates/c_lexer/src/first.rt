@@ -4,6 +4,7 @@
 ghost use Rattle.std.specs.Prelude.{◌≡◌, ℕ, ◌+◌, ◌^◌, ◌<◌, List, length, IfOk, IfSome, IfNone};
 ghost use Rattle.c_lexer.specs.declared.token.Token.{Token};
 ghost use Rattle.c_lexer.specs.FirstTokens.{token_at, AreTokensOf};
+ghost use Rattle.c_lexer.specs.TokenLaws.{HasOneTokenList, TokensAreOfText, TokensAreInOrder, TokensCoverText, TokensAreFew, BytesTellKind, TokensAreAscii, NumbersAreDecimal};
 
 use crate::front::{Front, front_at};
 use crate::position::Position;
@@ -45,4 +46,27 @@ pub fn first_tokens(alloc: Global, text: &[u8]) -> Result<Option<Vec<Token>>, Al
             Front::Other => return Ok(None),
         }
     }
+}
+
+/// A text has at most one list of tokens.
+pub fn one_token_list()
+    ensures { HasOneTokenList }
+{
+}
+
+/// Where the tokens of a text lie: each is one of the text, they are in order, and no byte but blanks is left out.
+pub fn tokens_cover_text()
+    ensures each { TokensAreOfText }
+    ensures ordered { TokensAreInOrder }
+    ensures covering { TokensCoverText }
+    ensures few { TokensAreFew }
+{
+}
+
+/// What the bytes of a token say of it.
+pub fn token_bytes()
+    ensures kind { BytesTellKind }
+    ensures ascii { TokensAreAscii }
+    ensures decimal { NumbersAreDecimal }
+{
 }
