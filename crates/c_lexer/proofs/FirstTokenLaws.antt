@@ -1,5 +1,5 @@
 -- Laws of the tokens of a text, for whoever reads them.
-use Rattle.std.proofs.Common.{◌≡◌, ℕ, zero, suc, ◌+◌, ◌-◌, ◌<◌, ◌≤◌, Bool, true, false, List, [], ◌∷◌, ◌++◌, length, take, drop, get_or, nat_le, refl, sym, ap, subst, ◌∙◌, ◌⊎◌, inl, inr, ⊎_elim, append_assoc, append-nil, arith}
+use Rattle.std.proofs.Common.{◌≡◌, ℕ, zero, suc, ◌+◌, ◌-◌, ◌<◌, ◌≤◌, true, false, List, [], ◌∷◌, ◌++◌, length, take, drop, get_or, refl, sym, ap, subst, ◌∙◌, ⊎_elim, append_assoc, arith}
 use Rattle.std.specs.Prelude.{All, AllPairs, Any}
 use Rattle.std.specs.List.{list_all, AllByRecursion}
 use Rattle.std.specs.Str.{IsAscii, IsUtf8}
@@ -7,7 +7,7 @@ use Rattle.std.proofs.Math.Seq.{drop-append_seam}
 use Rattle.std.proofs.lemmas.Bool.{cases_lt}
 use Rattle.std.proofs.lemmas.Bool.Decides.{nat_tests}
 use Rattle.std.proofs.lemmas.List.{take-append-drop, length-append, length-take-le}
-use Rattle.std.proofs.lemmas.List.Elements.{All-from_recursion, recursion_from_All}
+use Rattle.std.proofs.lemmas.List.Elements.{All-from_recursion}
 use Rattle.std.proofs.lemmas.Str.{IsUtf8-from_ascii}
 use Rattle.std.proofs.lemmas.Str.Ascii.{IsAscii-nil, IsAscii-cons}
 use Rattle.c_lexer.specs.declared.token.TokenKind.{TokenKind}
@@ -23,7 +23,7 @@ use Rattle.c_lexer.specs.TokenLaws.{bytes_of, IsTokenOf}
 use Rattle.c_lexer.proofs.ListLemmas.{apart, left, right}
 use Rattle.c_lexer.proofs.TokenLemmas as tokens
 use Rattle.c_lexer.proofs.TokenLemmas.{is_graphic, token_graphic}
-use Rattle.c_lexer.proofs.PositionLemmas.{step-offset, along, after_along, after-append}
+use Rattle.c_lexer.proofs.PositionLemmas.{step-offset, after-append}
 use Rattle.c_lexer.proofs.FirstTokenLemmas.{longest_some, one_list}
 
 -- ---- one list, one kind, ASCII
@@ -172,11 +172,12 @@ lie_blank text before rest p c ts a b l = record {
   where
     here : get_or text p.offset 0 ≡ c
     here = get_or_rest text p.offset ∙ ap (λ r. get_or r 0 0) (at_rest text before (c ∷ rest) p a)
+
     covering : (i : ℕ) → p.offset ≤ i → i < length text → is_blank (get_or text i 0) ≡ false → Any (Has i) ts
     covering i le lt h =
         ⊎_elim (λ more. l.covering i (omega (arith, more)) lt h)
-            (λ no. let e : p.offset ≡ i = omega (arith, no) in absurd (apart (is_blank c) (ap is_blank (sym here ∙ ap (λ j. get_or text j 0) e) ∙ h) b))
-            (cases_lt p.offset i)
+        (λ no. let e : p.offset ≡ i = omega (arith, no) in absurd (apart (is_blank c) (ap is_blank (sym here ∙ ap (λ j. get_or text j 0) e) ∙ h) b))
+        (cases_lt p.offset i)
 
 lie_token : (text before rest : List ℕ) (p : Position) (k : TokenKind) (n : ℕ) (ts : List Token) → At text before rest p → IsLongest rest k n → is_allowed k (take n rest) ≡ true
     → Lie text (p.offset + n) ts → Lie text p.offset (token_at p k n ∷ ts)
@@ -195,7 +196,7 @@ lies text before _ p ts a (blank {rest = rest} c b l) =
     lie_blank text before rest p c ts a b (subst (λ o. Lie text o ts) (step-offset p c) (lies text (before ++ c ∷ []) rest (step p c) ts (at_blank text before rest p c a) l))
 lies text before rest p _ a (token {tokens = ts} k n h i l) =
     lie_token text before rest p k n ts a h i
-        (subst (λ o. Lie text o ts) (token_offset rest p k n h) (lies text (before ++ take n rest) (drop n rest) (after p (take n rest)) ts (at_token text before rest p n a) l))
+    (subst (λ o. Lie text o ts) (token_offset rest p k n h) (lies text (before ++ take n rest) (drop n rest) (after p (take n rest)) ts (at_token text before rest p n a) l))
 
 whole_lies : (text : List ℕ) (ts : List Token) → AreTokensOf text ts → Lie text 0 ts
 whole_lies text ts l = lies text [] text start ts (at_start text) l

@@ -1,10 +1,9 @@
 -- The tokens of a text of the first form, read from the front.
-use Rattle.std.proofs.Common.{◌≡◌, ℕ, zero, suc, ◌+◌, ◌≤◌, ◌<◌, Bool, true, false, List, [], ◌∷◌, length, take, drop, get_or, refl, sym, ap, subst, ◌∙◌, arith, ap₂, not, ◌==◌}
-use Rattle.std.specs.List.{list_any, list_all}
+use Rattle.std.proofs.Common.{◌≡◌, ℕ, zero, suc, ◌<◌, true, false, List, [], ◌∷◌, length, take, drop, get_or, refl, sym, ap, subst, ◌∙◌, arith, ap₂, not, ◌==◌}
+use Rattle.std.specs.List.{list_any}
 use Rattle.std.specs.Str.{bytes_eq}
 use Rattle.std.proofs.lemmas.Bool.Decides.{nat_tests}
 use Rattle.c_lexer.specs.declared.token.TokenKind.{TokenKind}
-use Rattle.c_lexer.specs.declared.token.TokenKind.TheVariants as kind
 use Rattle.c_lexer.specs.declared.token.Token.{Token}
 use Rattle.c_lexer.specs.declared.position.Position.{Position}
 use Rattle.c_lexer.specs.Bytes.{is_blank, is_digit, is_letter}

@@ -1,5 +1,5 @@
 -- A scan from the left finds the tokens of a text.
-use Rattle.std.proofs.Common.{◌≡◌, ℕ, ◌+◌, ◌≤◌, true, List, [], ◌∷◌, ◌++◌, length, take, drop, refl, sym, ap, subst, ◌∙◌, append_assoc, append-nil, arith}
+use Rattle.std.proofs.Common.{◌≡◌, ℕ, List, [], ◌∷◌, ◌++◌, take, drop, sym, ap, subst, ◌∙◌, append_assoc, append-nil}
 use Rattle.std.proofs.lemmas.List.{drop-drop, length-take-le}
 use Rattle.c_lexer.specs.declared.token.TokenKind.{TokenKind}
 use Rattle.c_lexer.specs.declared.token.Token.{Token}
@@ -47,8 +47,8 @@ pub found_token : (text : List ℕ) (p : Position) (k : TokenKind) (n : ℕ) (fo
 found_token text p k n found s h = record {
   completes = λ tokens l.
       subst (AreTokensOf text) (sym (append_assoc found (token_at p k n ∷ []) tokens))
-          (h.completes (token_at p k n ∷ tokens)
-              (token k n s.0 s.1 (subst (λ q. Tokens q (drop n (drop p.offset text)) tokens) (sym moved) (subst (λ r. Tokens (along p n) r tokens) (sym (drop-drop n p.offset text)) l))));
+      (h.completes (token_at p k n ∷ tokens)
+      (token k n s.0 s.1 (subst (λ q. Tokens q (drop n (drop p.offset text)) tokens) (sym moved) (subst (λ r. Tokens (along p n) r tokens) (sym (drop-drop n p.offset text)) l))));
   leads = λ tokens l.
       let r = h.leads tokens l in
       let f = from_token p (drop p.offset text) r.0 k n s.0 r.1 in

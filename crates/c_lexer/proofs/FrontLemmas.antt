@@ -1,5 +1,5 @@
 -- What stands at the front of a text, from its bytes.
-use Rattle.std.proofs.Common.{◌≡◌, ℕ, zero, suc, ◌+◌, ◌-◌, ◌≤◌, ◌<◌, Bool, true, false, not, ◌&&◌, ◌||◌, ◌==◌, nat_eq, nat_le, List, [], ◌∷◌, length, take, drop, get_or, refl, sym, ap, subst, ◌∙◌, ⊎_elim, arith}
+use Rattle.std.proofs.Common.{◌≡◌, ℕ, zero, suc, ◌+◌, ◌-◌, ◌≤◌, ◌<◌, Bool, true, false, not, ◌||◌, ◌==◌, nat_le, List, [], ◌∷◌, length, take, drop, get_or, refl, sym, ap, subst, ◌∙◌, ⊎_elim, arith}
 use Rattle.std.proofs.Math.Numerals.{one-add}
 use Rattle.std.specs.Prelude.{codes}
 use Rattle.std.specs.Str.{bytes_eq}
@@ -10,15 +10,13 @@ use Rattle.std.proofs.lemmas.Slice.Eq.{bytes_eq-Decides}
 use Rattle.c_lexer.specs.declared.token.TokenKind.{TokenKind}
 use Rattle.c_lexer.specs.declared.token.TokenKind.TheVariants as kind
 use Rattle.c_lexer.specs.declared.token.IntSuffix.TheVariants as suffix
-use Rattle.c_lexer.specs.declared.token.Token.{Token}
-use Rattle.c_lexer.specs.declared.position.Position.{Position}
 use Rattle.c_lexer.specs.declared.front.Front.{Front}
 use Rattle.c_lexer.specs.declared.front.Front.TheVariants as front
 use Rattle.c_lexer.specs.Bytes.{is_blank, is_digit, is_letter, is_word, is_number_part, is_keyword}
-use Rattle.c_lexer.specs.FirstTokens.{punctuation, is_identifier, is_number, is_backslash_word, is_decimal, is_token, is_allowed, IsLongest, Tokens}
+use Rattle.c_lexer.specs.FirstTokens.{punctuation, is_identifier, is_number, is_backslash_word, is_decimal, is_token, is_allowed, IsLongest}
 use Rattle.c_lexer.specs.Fronts.{Stands, Reaches}
-use Rattle.c_lexer.proofs.ListLemmas.{both, left, right, either, apart, not_true, among, IsRun, IsRun-take_while, IsRun-some}
-use Rattle.c_lexer.proofs.TokenLemmas.{lead, letter, digit, backslash, mark, lead_letter, lead_digit, lead_backslash, lead_mark, lead_of, shape, starts, token_some, identifier_words, number_parts, letter_word, digit_part}
+use Rattle.c_lexer.proofs.ListLemmas.{both, left, right, either, apart, among, IsRun, IsRun-take_while, IsRun-some}
+use Rattle.c_lexer.proofs.TokenLemmas.{lead, letter, digit, backslash, mark, lead_letter, lead_digit, lead_backslash, lead_mark, shape, starts, token_some, identifier_words, number_parts, letter_word, digit_part}
 use Rattle.c_lexer.proofs.FirstTokenLemmas.{text_shape, one_token, longest_some, from_other}
 
 -- ---- the words that begin as the text does
@@ -201,22 +199,26 @@ byte_0 (c ∷ cs) b bs (suc n) h = cc
 pub opening_stands : (text : List ℕ) → 3 ≤ length text → lead (get_or text 0 0) ≡ mark → bytes_eq (codes "/*@") (take 3 text) ≡ true → Stands text (front.Token kind.Punctuation 3)
 unfolding is_token is_allowed punctuation
 opening_stands text fits e h =
-    let same : take 3 text ≡ codes "/*@" = front_is text (codes "/*@") h in
-    (record {
-      fits = fits;
-      token = subst (λ w. list_any (bytes_eq w) punctuation ≡ true) (sym same) refl;
-      longest = λ other m le i. bounded (λ c. c == 47) 3 text m refl (ap (λ c. c == 47) (byte_0 text 47 (codes "*@") 3 same)) le (mark_at text other m e i);
-    }, refl)
+    let same : take 3 text ≡ codes "/*@" = front_is text (codes "/*@") h in (
+      record {
+        fits = fits;
+        token = subst (λ w. list_any (bytes_eq w) punctuation ≡ true) (sym same) refl;
+        longest = λ other m le i. bounded (λ c. c == 47) 3 text m refl (ap (λ c. c == 47) (byte_0 text 47 (codes "*@") 3 same)) le (mark_at text other m e i);
+      },
+      refl,
+    )
 
 pub closing_stands : (text : List ℕ) → 2 ≤ length text → lead (get_or text 0 0) ≡ mark → bytes_eq (codes "*/") (take 2 text) ≡ true → Stands text (front.Token kind.Punctuation 2)
 unfolding is_token is_allowed punctuation
 closing_stands text fits e h =
-    let same : take 2 text ≡ codes "*/" = front_is text (codes "*/") h in
-    (record {
-      fits = fits;
-      token = subst (λ w. list_any (bytes_eq w) punctuation ≡ true) (sym same) refl;
-      longest = λ other m le i. bounded (λ c. c == 42) 2 text m refl (ap (λ c. c == 42) (byte_0 text 42 (codes "/") 2 same)) le (mark_at text other m e i);
-    }, refl)
+    let same : take 2 text ≡ codes "*/" = front_is text (codes "*/") h in (
+      record {
+        fits = fits;
+        token = subst (λ w. list_any (bytes_eq w) punctuation ≡ true) (sym same) refl;
+        longest = λ other m le i. bounded (λ c. c == 42) 2 text m refl (ap (λ c. c == 42) (byte_0 text 42 (codes "/") 2 same)) le (mark_at text other m e i);
+      },
+      refl,
+    )
 
 -- a punctuator is one byte, or `/*@`, or `*/`
 punctuator : (w : List ℕ) → list_any (bytes_eq w) punctuation ≡ true → (starts is_single w || (bytes_eq (codes "/*@") w || bytes_eq (codes "*/") w)) ≡ true
@@ -238,8 +240,8 @@ mark_none : (text : List ℕ) (m : ℕ) → m ≤ length text → is_single (get
     → list_any (bytes_eq (take m text)) punctuation ≡ true → ⊥
 mark_none text m le a b c h =
     ⊎_elim (λ i. apart (is_single (get_or text 0 0)) a (single_head text m i))
-        (λ i. ⊎_elim (λ j. not_front text (codes "/*@") m le b j) (λ j. not_front text (codes "*/") m le c j) (either (bytes_eq (codes "/*@") (take m text)) _ i))
-        (either (starts is_single (take m text)) _ (punctuator (take m text) h))
+    (λ i. ⊎_elim (λ j. not_front text (codes "/*@") m le b j) (λ j. not_front text (codes "*/") m le c j) (either (bytes_eq (codes "/*@") (take m text)) _ i))
+    (either (starts is_single (take m text)) _ (punctuator (take m text) h))
 
 pub bad_mark_stands : (text : List ℕ) → 0 < length text → is_blank (get_or text 0 0) ≡ false → lead (get_or text 0 0) ≡ mark → is_single (get_or text 0 0) ≡ false
     → bytes_eq (codes "/*@") (take 3 text) ≡ false → bytes_eq (codes "*/") (take 2 text) ≡ false → Stands text front.Other

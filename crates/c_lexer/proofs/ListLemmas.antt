@@ -1,5 +1,5 @@
 -- Tests of each element of a list, and of words among others.
-use Rattle.std.proofs.Common.{◌≡◌, ℕ, zero, suc, ◌+◌, ◌≤◌, ◌<◌, Bool, true, false, not, cond, ◌&&◌, ◌||◌, List, [], ◌∷◌, length, take, drop, refl, sym, ap, subst, ◌∙◌, ◌⊎◌, inl, inr, ⊎_elim, arith}
+use Rattle.std.proofs.Common.{◌≡◌, ℕ, zero, suc, ◌+◌, ◌≤◌, ◌<◌, Bool, true, false, not, cond, ◌&&◌, ◌||◌, List, [], ◌∷◌, length, take, refl, sym, ap, subst, ◌∙◌, ◌⊎◌, inl, inr, ⊎_elim, arith}
 use Rattle.std.proofs.Math.Numerals.{one-add}
 use Rattle.std.specs.List.{list_any, list_all, prefix_len, take_while}
 use Rattle.std.specs.Str.{bytes_eq}
@@ -49,7 +49,7 @@ prefix_len_longest test xs zero le h = omega arith
 prefix_len_longest test [] (suc m) le h = absurd (omega arith)
 prefix_len_longest test (x ∷ xs) (suc m) le h =
     subst (λ b. suc m ≤ cond b (1 + prefix_len test xs) 0) (sym (left (test x) _ h))
-        (add_one m (prefix_len test xs) (prefix_len_longest test xs m (omega arith) (right (test x) _ h)))
+    (add_one m (prefix_len test xs) (prefix_len_longest test xs m (omega arith) (right (test x) _ h)))
 
 cond_each : (test : ℕ → Bool) (x : ℕ) (xs : List ℕ) (n : ℕ) → list_all test (take n xs) ≡ true → (b : Bool) → test x ≡ b → list_all test (take (cond b (1 + n) 0) (x ∷ xs)) ≡ true
 cond_each test x xs n h true e = simp one-add (both _ _ e h)
@@ -68,7 +68,7 @@ pub record IsRun (test : ℕ → Bool) (xs : List ℕ) (n : ℕ) : Type 0 where
 pub IsRun-take_while : (test : ℕ → Bool) (xs : List ℕ) (n : ℕ) → n ≡ length (take_while test xs) → IsRun test xs n
 IsRun-take_while test xs n e =
     subst (IsRun test xs) (sym (e ∙ length-prefix_len test xs))
-        (record { fits = prefix_len-le-length test xs; passes = prefix_len_each test xs; longest = prefix_len_longest test xs })
+    (record { fits = prefix_len-le-length test xs; passes = prefix_len_each test xs; longest = prefix_len_longest test xs })
 
 pub IsRun-some : (test : ℕ → Bool) (x : ℕ) (xs : List ℕ) (n : ℕ) → test x ≡ true → IsRun test (x ∷ xs) n → 0 < n
 IsRun-some test x xs n h run = omega (arith, run.longest 1 (omega arith) (both _ _ h refl))

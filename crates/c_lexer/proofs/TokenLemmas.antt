@@ -1,16 +1,14 @@
 -- The bytes of a token: they tell its kind, and they are ASCII.
-use Rattle.std.proofs.Common.{◌≡◌, ℕ, zero, suc, ◌+◌, ◌≤◌, ◌<◌, Bool, true, false, not, ◌&&◌, ◌||◌, ◌==◌, nat_eq, nat_le, if◌then◌else◌, List, [], ◌∷◌, length, take, drop, get_or, refl, sym, ap, subst, ◌∙◌, ⊎_elim, arith}
-use Rattle.std.specs.Prelude.{codes}
+use Rattle.std.proofs.Common.{◌≡◌, ℕ, ◌<◌, Bool, true, false, ◌&&◌, ◌==◌, if◌then◌else◌, List, [], ◌∷◌, length, get_or, refl, sym, ap, ◌∙◌, arith}
 use Rattle.std.specs.List.{list_any, list_all}
 use Rattle.std.specs.Str.{bytes_eq}
 use Rattle.std.proofs.lemmas.Bool.Decides.{nat_tests}
 use Rattle.c_lexer.specs.declared.token.TokenKind.{TokenKind}
 use Rattle.c_lexer.specs.declared.token.TokenKind.TheVariants as kind
-use Rattle.c_lexer.specs.declared.token.IntSuffix.{IntSuffix}
 use Rattle.c_lexer.specs.declared.token.IntSuffix.TheVariants as suffix
-use Rattle.c_lexer.specs.Bytes.{is_between, is_blank, is_digit, is_letter, is_word, is_number_part, is_keyword, keywords}
+use Rattle.c_lexer.specs.Bytes.{is_between, is_digit, is_letter, is_word, is_number_part, is_keyword, keywords}
 use Rattle.c_lexer.specs.FirstTokens.{punctuation, is_identifier, is_number, is_backslash_word, is_decimal, is_token}
-use Rattle.c_lexer.proofs.ListLemmas.{both, left, right, either, apart, not_true, among, list_all_weaker}
+use Rattle.c_lexer.proofs.ListLemmas.{both, left, right, not_true, among, list_all_weaker}
 
 -- how a token begins
 pub data Lead : Type 0 where

@@ -1,11 +1,10 @@
 -- The tokens of a text of the first form: at each place that is no blank, the longest token that begins there
 -- (C11 6.4, paragraph 4). There are no comments in such a text, and `/*@` and `*/` are tokens of their own.
-use Rattle.std.specs.Prelude.{◌≡◌, ℕ, ◌+◌, ◌-◌, ◌<◌, ◌≤◌, Bool, true, false, not, ◌&&◌, ◌||◌, ◌==◌, List, [], ◌∷◌, length, take, drop, codes}
+use Rattle.std.specs.Prelude.{◌≡◌, ℕ, ◌+◌, ◌≤◌, Bool, true, false, not, ◌&&◌, ◌==◌, List, [], ◌∷◌, length, take, drop, codes}
 use Rattle.std.specs.List.{list_any, list_all}
 use Rattle.std.specs.Str.{bytes_eq}
 use Rattle.c_lexer.specs.declared.token.TokenKind.{TokenKind}
 use Rattle.c_lexer.specs.declared.token.TokenKind.TheVariants as kind
-use Rattle.c_lexer.specs.declared.token.IntSuffix.{IntSuffix}
 use Rattle.c_lexer.specs.declared.token.IntSuffix.TheVariants as suffix
 use Rattle.c_lexer.specs.declared.token.Token.{Token}
 use Rattle.c_lexer.specs.Bytes.{is_blank, is_digit, is_letter, is_word, is_number_part, is_between, is_keyword}

@@ -100,3 +100,28 @@ pub fn is_keyword(word: &[u8]) -> bool
 {
     is_among(&KEYWORDS, word)
 }
+
+#[cfg(test)]
+mod tests {
+    use super::*;
+
+    #[test]
+    fn tells_keywords(rt: HostRuntime) {
+        let cases = [
+            ("auto", true),
+            ("while", true),
+            ("_Thread_local", true),
+            ("sizeof", true),
+            ("", false),
+            ("main", false),
+            ("Int", false),
+            ("in", false),
+            ("ints", false),
+            ("_Static_asserts", false),
+            ("asm", false),
+        ];
+        for (word, want) in cases {
+            assert_eq!(rt; is_keyword(word.as_bytes()), want, "at {word}");
+        }
+    }
+}

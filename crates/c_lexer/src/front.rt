@@ -38,7 +38,9 @@ fn word_len(text: &[u8]) -> usize
 fn number_len(text: &[u8]) -> usize
     ensures { result ≡ length (take_while is_number_part text.now) }
 {
-    text.iter().take_while(|byte| is_number_part(**byte)).count()
+    text.iter()
+        .take_while(|byte| is_number_part(**byte))
+        .count()
 }
 
 fn all_digits(bytes: &[u8]) -> bool
@@ -69,7 +71,10 @@ fn is_decimal(bytes: &[u8]) -> bool
 fn is_mark(byte: u8) -> bool
     ensures { result ≡ list_any (λ c. byte == c) (codes ";,(){}=&:") }
 {
-    matches!(byte, b';' | b',' | b'(' | b')' | b'{' | b'}' | b'=' | b'&' | b':')
+    matches!(
+        byte,
+        b';' | b',' | b'(' | b')' | b'{' | b'}' | b'=' | b'&' | b':'
+    )
 }
 
 fn word(text: &[u8]) -> Front

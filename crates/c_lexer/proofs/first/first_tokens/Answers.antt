@@ -1,8 +1,7 @@
-use Rattle.std.proofs.Common.{◌≤◌, ◌+◌, length, drop, sym, subst, arith}
+use Rattle.std.proofs.Common.{arith}
 use Rattle.std.proofs.lemmas.List.{length-drop}
-use Rattle.c_lexer.specs.Positions.{start}
-use Rattle.c_lexer.proofs.PositionLemmas.{IsBounded, along, along_bounded, step_bounded, step-offset}
-use Rattle.c_lexer.proofs.FoundLemmas.{Found, found_none, found_all, found_blank, found_token}
+use Rattle.c_lexer.proofs.PositionLemmas.{along_bounded, step_bounded, step-offset}
+use Rattle.c_lexer.proofs.FoundLemmas.{found_none, found_all, found_blank, found_token}
 use Rattle.c_lexer.proofs.first.first_tokens.Goals as goal
 
 pub loop-tokens-init : goal.loop-tokens-init
