@@ -1,4 +1,7 @@
 //! The outside of the program: files, sources and sinks of bytes, their forms in memory and over std, and the statuses.
 #![tactic(auto)]
 
+mod count;
+pub mod mem_source;
 pub mod outside;
+pub mod status;
