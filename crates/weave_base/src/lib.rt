@@ -2,6 +2,8 @@
 #![tactic(auto)]
 
 mod count;
+pub mod mem_files;
+pub mod mem_sink;
 pub mod mem_source;
 pub mod outside;
 pub mod status;

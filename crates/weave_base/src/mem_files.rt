@@ -1,0 +1,78 @@
+//! Files in memory.
+
+ghost use Rattle.std.specs.Prelude.{◌≡◌, [], ◌∷◌, ◌++◌, None, IfOk, OnOk, OnErr};
+ghost use Rattle.weave_base.specs.Calls.{with_call};
+ghost use Rattle.weave_base.specs.FilesInMemory.{load_answer, IsAnswer, after_load};
+
+use crate::count::count_up;
+use crate::outside::{FileFault, Files};
+use std::alloc::{AllocError, Global};
+use std::collections::BTreeSet;
+use std::marker::Model;
+
+/// Files in memory, whose listed calls fail.
+///
+/// A load looks through the files in the order in which they were added. Calls are counted from 1, also those that
+/// end for want of memory. The counts of calls and of faults stand still at `u64::MAX`, so from there on each call
+/// has that number.
+#[derive(Drop)]
+pub struct MemFiles {
+    alloc: Global,
+    files: Vec<MemFile>,
+    listed: BTreeSet<u64>,
+    calls: u64,
+    faults: u64,
+    last_failed: Option<String>,
+}
+
+#[derive(Drop)]
+struct MemFile {
+    name: String,
+    bytes: Vec<u8>,
+}
+
+impl Model for MemFiles {
+    ghost use Rattle.std.specs.Prelude.{map, option_map, string_bytes};
+    ghost use Rattle.weave_base.specs.FilesInMemory.{FilesInMemory};
+    ghost use Rattle.weave_base.specs.MemFile.{file_of};
+
+    ghost Value = { FilesInMemory };
+
+    ghost view = { λ s. record { files = map file_of s.files.items; listed = s.listed.keys; calls = s.calls; faults = s.faults; last_failed = option_map string_bytes s.last_failed } };
+}
+
+impl MemFiles {
+    /// No files, and no call listed.
+    pub fn new(alloc: Global) -> Result<MemFiles, AllocError>
+        ensures { IfOk result (λ files. files ≡ record { files = []; listed = []; calls = 0; faults = 0; last_failed = None }) }
+    {
+        Ok(MemFiles {
+            alloc,
+            files: Vec::new(alloc),
+            listed: BTreeSet::new(alloc),
+            calls: 0,
+            faults: 0,
+            last_failed: None,
+        })
+    }
+
+    /// Adds a file. Where there is one of that name already, loads go on giving that one.
+    pub fn add(&mut self, name: &str, bytes: &[u8]) -> Result<(), AllocError>
+        ensures ok { OnOk result (self.new ≡ record self.old { files = self.old.files ++ record { name = name.now; bytes = bytes.now } ∷ [] }) }
+        ensures err { OnErr result (self.new ≡ self.old) }
+    {
+        let name = String::from_str(self.alloc, name)?;
+        let bytes = bytes.to_vec(self.alloc)?;
+        self.files.push(MemFile { name, bytes })?;
+        Ok(())
+    }
+
+    /// Lists a call of `load`, so that it fails.
+    pub fn fail_at(&mut self, call: u64) -> Result<(), AllocError>
+        ensures ok { OnOk result (self.new ≡ record self.old { listed = with_call self.old.listed call }) }
+        ensures err { OnErr result (self.new ≡ self.old) }
+    {
+        self.listed.insert(call)?;
+        Ok(())
+    }
+}
