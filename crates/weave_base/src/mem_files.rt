@@ -1,8 +1,10 @@
 //! Files in memory.
 
-ghost use Rattle.std.specs.Prelude.{◌≡◌, [], ◌∷◌, ◌++◌, None, IfOk, OnOk, OnErr};
+ghost use Rattle.std.specs.Prelude.{◌≡◌, [], ◌∷◌, ◌++◌, map, option_map, None, IfOk, OnOk, OnErr};
 ghost use Rattle.weave_base.specs.Calls.{with_call};
+ghost use Rattle.weave_base.specs.Contents.{bytes_of};
 ghost use Rattle.weave_base.specs.FilesInMemory.{load_answer, IsAnswer, after_load};
+ghost use Rattle.weave_base.specs.MemFile.{file_of};
 
 use crate::count::count_up;
 use crate::outside::{FileFault, Files};
@@ -75,4 +77,49 @@ impl MemFiles {
         self.listed.insert(call)?;
         Ok(())
     }
+}
+
+impl Files for MemFiles {
+    ghost use Rattle.std.specs.Prelude.{Some};
+
+    ghost contents = { λ s. Some s.files };
+
+    ghost faults = { λ s. s.faults };
+
+    ghost last_failed = { λ s. s.last_failed };
+
+    fn load(&mut self, alloc: Global, name: &str, limit: u64) -> Result<Vec<u8>, FileFault>
+        ensures answer { IsAnswer (load_answer self.old name.now limit) result }
+        ensures after { self.new ≡ after_load self.old name.now result }
+    {
+        self.calls = count_up(self.calls);
+        let failed_name = String::from_str(alloc, name)?;
+        let found = if self.listed.contains(&self.calls) {
+            None
+        } else {
+            find(&self.files, name)
+        };
+        let Some(bytes) = found else {
+            self.faults = count_up(self.faults);
+            self.last_failed = Some(failed_name);
+            return Err(FileFault::Failed);
+        };
+        if limit < bytes.len() as u64 {
+            return Err(FileFault::TooLong);
+        }
+        Ok(bytes.to_vec(alloc)?)
+    }
+}
+
+// The bytes of the first file of the name.
+#[tactic(auto, using(crate::proofs::Search::bytes_of_end))]
+fn find<'a>(files: &'a [MemFile], name: &str) -> Option<&'a [u8]>
+    ensures { option_map (λ bytes. bytes.now) result ≡ bytes_of (map file_of files.now) name.now }
+{
+    for file in files {
+        if file.name.as_str() == name {
+            return Some(&file.bytes);
+        }
+    }
+    None
 }

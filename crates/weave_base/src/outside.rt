@@ -9,7 +9,7 @@ ghost use Rattle.weave_base.specs.Causes.{HasCause, Rose};
 ghost use Rattle.weave_base.specs.Contents.{File, IsLoaded, failed_name, IsTaken, IsPut};
 ghost use Rattle.weave_base.specs.declared.outside.FileFault.TheVariants as fault;
 
-use std::alloc::Global;
+use std::alloc::{AllocError, Global};
 
 /// A call of the outside failed.
 #[derive(Clone, Copy, Debug, PartialEq, Eq)]
@@ -24,6 +24,14 @@ pub enum FileFault {
     TooLong,
     /// Want of memory.
     Memory,
+}
+
+impl From<AllocError> for FileFault {
+    ghost from_gives = { λ _ e. e ≡ fault.Memory };
+
+    fn from(_: AllocError) -> FileFault {
+        FileFault::Memory
+    }
 }
 
 /// Files by their names.
