@@ -3,6 +3,7 @@ pub mod Causes
 pub mod Contents
 pub mod FilesInMemory
 pub mod MemFile
+pub mod Reading
 pub mod SinkInMemory
 pub mod SourceInMemory
 pub mod Statuses
