@@ -1,6 +1,6 @@
 //! The files of the system.
 
-ghost use Rattle.std.specs.Prelude.{◌≡◌, ℕ, ◌+◌, List, Some, IfOk, IsErrOf};
+ghost use Rattle.std.specs.Prelude.{◌≡◌, ℕ, ◌+◌, List, Some, None, IfOk, IsErrOf};
 ghost use Rattle.weave_base.specs.Reading.{IsReadWithin, IsChunk};
 
 use crate::count::count_up;
@@ -24,7 +24,10 @@ pub struct DirFiles<R> {
 
 impl<R: std::rt::Files> DirFiles<R> {
     /// The files of this runtime, no load of which has failed yet.
-    pub fn new(rt: R) -> DirFiles<R> {
+    pub fn new(rt: R) -> DirFiles<R>
+        ensures faults { ⟦<DirFiles<R> as Files>⟧.faults result ≡ 0 }
+        ensures last_failed { ⟦<DirFiles<R> as Files>⟧.last_failed result ≡ None }
+    {
         DirFiles {
             rt,
             faults: 0,
@@ -102,4 +105,33 @@ fn read_chunk<R: Read>(
     };
     bytes.extend_from_slice(&chunk[..count])?;
     Ok(count)
+}
+
+#[cfg(test)]
+mod tests {
+    use super::*;
+    use std::env;
+    use std::test::Fail;
+
+    #[test]
+    fn a_file_is_loaded_up_to_its_limit(rt: HostRuntime) -> Result<(), Fail> {
+        let alloc = rt.alloc();
+        let folder = env::temp_dir(&rt)?;
+        let folder = folder.as_str();
+        let process = std::process::id(rt.process());
+        let path = format!(in alloc; "{folder}/weave_base_{process}")?;
+        let missing = format!(in alloc; "{folder}/weave_base_{process}_missing")?;
+        let bytes = [5u8; CHUNK_LEN + 1];
+        fs::write(&rt, path.as_str(), bytes.as_slice())?;
+        let len = bytes.len() as u64;
+        let mut files = DirFiles::new(rt);
+        let whole = files.load(alloc, path.as_str(), len);
+        let cut = files.load(alloc, path.as_str(), len - 1);
+        let none = files.load(alloc, missing.as_str(), len);
+        fs::remove_file(&rt, path.as_str())?;
+        assert_eq!(rt; whole.as_ref().ok().map(|v| v.as_slice()), Some(bytes.as_slice()));
+        assert_eq!(rt; cut.err(), Some(FileFault::TooLong));
+        assert_eq!(rt; none.err(), Some(FileFault::Failed));
+        Ok(())
+    }
 }

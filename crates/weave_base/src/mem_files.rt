@@ -123,3 +123,43 @@ fn find<'a>(files: &'a [MemFile], name: &str) -> Option<&'a [u8]>
     }
     None
 }
+
+#[cfg(test)]
+mod tests {
+    use super::*;
+    use std::test::Fail;
+
+    fn load_from<F: Files>(
+        files: &mut F,
+        alloc: Global,
+        name: &str,
+        limit: u64,
+    ) -> Result<Vec<u8>, FileFault> {
+        files.load(alloc, name, limit)
+    }
+
+    #[test]
+    fn the_first_file_of_a_name_is_loaded(rt: HostRuntime) -> Result<(), Fail> {
+        let alloc = rt.alloc();
+        let mut files = MemFiles::new(alloc)?;
+        files.add("a.c", b"one")?;
+        files.add("b.c", b"")?;
+        files.add("a.c", b"other")?;
+        files.fail_at(4)?;
+        let loads: [(&str, u64, Result<&[u8], FileFault>); 6] = [
+            ("a.c", 3, Ok(b"one")),
+            ("a.c", 2, Err(FileFault::TooLong)),
+            ("c.c", 9, Err(FileFault::Failed)),
+            ("a.c", 3, Err(FileFault::Failed)),
+            ("a.c", u64::MAX, Ok(b"one")),
+            ("b.c", 0, Ok(b"")),
+        ];
+        for (name, limit, answer) in loads {
+            match load_from(&mut files, alloc, name, limit) {
+                Ok(bytes) => assert_eq!(rt; Ok(bytes.as_slice()), answer, "{name} in {limit}"),
+                Err(fault) => assert_eq!(rt; Err(fault), answer, "{name} in {limit}"),
+            }
+        }
+        Ok(())
+    }
+}

@@ -101,3 +101,35 @@ fn append_part(held: &mut Vec<u8>, piece: &[u8], most: usize)
     let part = &piece[..most.min(piece.len())];
     held.extend_from_slice(part).unwrap();
 }
+
+#[cfg(test)]
+mod tests {
+    use super::*;
+    use std::test::Fail;
+
+    fn put_to<K: Sink>(sink: &mut K, piece: &[u8]) -> Result<(), Failed> {
+        sink.put(piece)
+    }
+
+    #[test]
+    fn faults_keep_a_prefix(rt: HostRuntime) -> Result<(), Fail> {
+        let mut sink = MemSink::new(rt.alloc(), 8)?;
+        sink.fail_at(2, 1)?;
+        sink.fail_at(2, 2)?;
+        sink.fail_at(4, 9)?;
+        let puts: [(&[u8], Result<(), Failed>, &[u8]); 7] = [
+            (b"ab", Ok(()), b"ab"),
+            (b"cde", Err(Failed), b"abc"),
+            (b"d", Ok(()), b"abcd"),
+            (b"ef", Err(Failed), b"abcdef"),
+            (b"ghi", Err(Failed), b"abcdefgh"),
+            (b"", Ok(()), b"abcdefgh"),
+            (b"j", Err(Failed), b"abcdefgh"),
+        ];
+        for (piece, answer, held) in puts {
+            assert_eq!(rt; put_to(&mut sink, piece), answer, "of {piece:?}");
+            assert_eq!(rt; sink.bytes(), held);
+        }
+        Ok(())
+    }
+}

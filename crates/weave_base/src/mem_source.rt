@@ -73,3 +73,32 @@ impl Source for MemSource {
         Ok(self.left.pop_front())
     }
 }
+
+#[cfg(test)]
+mod tests {
+    use super::*;
+    use std::test::Fail;
+
+    fn next_of<S: Source>(source: &mut S) -> Result<Option<u8>, Failed> {
+        source.next_byte()
+    }
+
+    #[test]
+    fn listed_calls_fail_and_take_nothing(rt: HostRuntime) -> Result<(), Fail> {
+        let mut source = MemSource::new(rt.alloc(), b"ab")?;
+        source.fail_at(2)?;
+        source.fail_at(5)?;
+        let answers = [
+            Ok(Some(b'a')),
+            Err(Failed),
+            Ok(Some(b'b')),
+            Ok(None),
+            Err(Failed),
+            Ok(None),
+        ];
+        for (i, answer) in answers.into_iter().enumerate() {
+            assert_eq!(rt; next_of(&mut source), answer, "in place {i}");
+        }
+        Ok(())
+    }
+}

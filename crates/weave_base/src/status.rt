@@ -50,3 +50,28 @@ impl Status {
         }
     }
 }
+
+#[cfg(test)]
+mod tests {
+    use super::*;
+
+    #[test]
+    fn codes_follow_the_order(rt: HostRuntime) {
+        let codes = [
+            (Status::Done, 0),
+            (Status::Violated, 1),
+            (Status::Words, 2),
+            (Status::Refused, 3),
+            (Status::ReadFault, 4),
+            (Status::WriteFault, 5),
+            (Status::NoMemory, 6),
+            (Status::RunFault, 7),
+            (Status::StepsSpent, 8),
+            (Status::CellsFull, 9),
+            (Status::CallsFull, 10),
+        ];
+        for (status, code) in codes {
+            assert_eq!(rt; status.code(), code, "of {status:?}");
+        }
+    }
+}

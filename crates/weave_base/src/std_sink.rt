@@ -19,7 +19,10 @@ pub struct StdSink<W> {
 
 impl<W: Write> StdSink<W> {
     /// A sink over this writer, with no faults yet.
-    pub fn new(writer: W) -> StdSink<W> {
+    pub fn new(writer: W) -> StdSink<W>
+        ensures held { ⟦<StdSink<W> as Sink>⟧.held result ≡ W.contents writer }
+        ensures faults { ⟦<StdSink<W> as Sink>⟧.faults result ≡ 0 }
+    {
         StdSink { writer, faults: 0 }
     }
 }
@@ -54,4 +57,36 @@ fn write_whole<W: Write>(writer: &mut W, piece: &[u8]) -> Result<(), Failed>
         }
     }
     Ok(())
+}
+
+#[cfg(test)]
+mod tests {
+    use super::*;
+    use std::test::Fail;
+
+    // Takes two bytes of each piece, until it holds five.
+    #[derive(Drop)]
+    struct SlowWriter<'a>(&'a mut Vec<u8>);
+
+    impl Write for SlowWriter<'_> {
+        fn write(&mut self, buf: &[u8]) -> std::io::Result<usize> {
+            let count = buf.len().min(2).min(5usize.saturating_sub(self.0.len()));
+            self.0.extend_from_slice(&buf[..count])?;
+            Ok(count)
+        }
+
+        fn flush(&mut self) -> std::io::Result<()> {
+            Ok(())
+        }
+    }
+
+    #[test]
+    fn pieces_are_handed_on_whole(rt: HostRuntime) -> Result<(), Fail> {
+        let mut held = Vec::new(rt.alloc());
+        let mut sink = StdSink::new(SlowWriter(&mut held));
+        let answers = [sink.put(b"abc"), sink.put(b""), sink.put(b"def")];
+        assert_eq!(rt; answers, [Ok(()), Ok(()), Err(Failed)]);
+        assert_eq!(rt; held.as_slice(), b"abcde".as_slice());
+        Ok(())
+    }
 }

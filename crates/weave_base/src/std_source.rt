@@ -26,7 +26,10 @@ pub struct StdSource<R> {
 
 impl<R: Read> StdSource<R> {
     /// A source over this reader, with no faults yet.
-    pub fn new(reader: R) -> StdSource<R> {
+    pub fn new(reader: R) -> StdSource<R>
+        ensures left { ⟦<StdSource<R> as Source>⟧.left result ≡ R.remaining reader }
+        ensures faults { ⟦<StdSource<R> as Source>⟧.faults result ≡ 0 }
+    {
         StdSource {
             reader,
             buffer: [0; BUFFER_LEN],
@@ -70,5 +73,54 @@ impl<R: Read> Source for StdSource<R> {
                 Err(Failed)
             }
         }
+    }
+}
+
+#[cfg(test)]
+mod tests {
+    use super::*;
+    use std::io;
+    use std::test::Fail;
+
+    // Gives a byte at a time, and fails at its second call.
+    #[derive(Drop)]
+    struct SlowReader {
+        calls: u8,
+    }
+
+    impl Read for SlowReader {
+        fn read(&mut self, buf: &mut [u8]) -> io::Result<usize> {
+            self.calls = self.calls.saturating_add(1);
+            match self.calls {
+                1 | 3 => b"a".as_slice().read(buf),
+                2 => Err(io::Error::from(io::ErrorKind::Other)),
+                _ => Ok(0),
+            }
+        }
+    }
+
+    #[test]
+    fn a_short_read_is_not_the_end(rt: HostRuntime) {
+        let mut source = StdSource::new(SlowReader { calls: 0 });
+        for (i, answer) in [Ok(Some(b'a')), Err(Failed), Ok(Some(b'a')), Ok(None)]
+            .into_iter()
+            .enumerate()
+        {
+            assert_eq!(rt; source.next_byte(), answer, "in place {i}");
+        }
+    }
+
+    #[test]
+    fn the_buffer_is_filled_again(rt: HostRuntime) -> Result<(), Fail> {
+        let bytes = [7u8; BUFFER_LEN + 904];
+        let mut source = StdSource::new(bytes.as_slice());
+        let mut count = 0u64;
+        for _ in 0..bytes.len() {
+            assert_eq!(rt; source.next_byte(), Ok(Some(7)));
+            count = count.saturating_add(1);
+        }
+        assert_eq!(rt; count, 5000);
+        assert_eq!(rt; source.next_byte(), Ok(None));
+        Ok(())
     }
 }
