@@ -24,7 +24,7 @@ read_more all old new before after most count r h =
     record {
       others = c.0;
       split = r.split ∙ ap (λ xs. old ++ xs) c.1 ∙ sym (append_assoc old h.chunk c.0) ∙ ap (λ xs. xs ++ c.0) (sym h.added);
-      holds = c.2
+      holds = c.2;
     }
 
 at_end : (left : Option (List ℕ)) (others : List ℕ) → left ≡ Some others → IsAtEnd left → others ≡ []

@@ -31,7 +31,7 @@ pub found_behind : (files : List MemFile) (i : ℕ) (file : MemFile) (name text 
 found_behind files i file name text b answer below is shown test other so_far =
     let named : bytes_eq (string_bytes file.name) name ≡ false = ap (λ t. bytes_eq t name) (sym shown) ∙ sym test ∙ other in
     sym (bytes_of_next files i file name below is
-        ∙ ap (λ t. if t then Some file.bytes.items else bytes_of (map file_of (drop (i + 1) files)) name) named)
+    ∙ ap (λ t. if t then Some file.bytes.items else bytes_of (map file_of (drop (i + 1) files)) name) named)
     ∙ so_far
 
 -- behind the last file nothing is found

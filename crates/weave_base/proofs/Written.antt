@@ -22,18 +22,13 @@ known_keep None new xs is h = absurd (cc)
 known_keep (Some zs) None xs is h = absurd h
 known_keep (Some zs) (Some ws) xs is h = cc
 
-pub written_none : (bytes piece : List ℕ) (held : Option (List ℕ)) → held ≡ Some bytes → Written bytes piece piece held
-written_none bytes piece held is = record { front = []; split = refl; holds = is ∙ ap (λ xs. Some xs) (sym append-nil-here) } where
-  append-nil-here : bytes ++ [] ≡ bytes
-  append-nil-here = search (rules)
-
 pub written_more : (bytes piece rest : List ℕ) (old new : Option (List ℕ)) (count : ℕ) →
     Written bytes piece rest old → Appends old new (take count rest) → Written bytes piece (drop count rest) new
 written_more bytes piece rest old new count w h = record {
-    front = w.front ++ take count rest;
-    split = w.split ∙ ap (λ xs. w.front ++ xs) (sym (take-append-drop count rest)) ∙ sym (append_assoc w.front (take count rest) (drop count rest));
-    holds = known_append old new _ _ w.holds h ∙ ap (λ xs. Some xs) (append_assoc bytes w.front (take count rest))
-  }
+  front = w.front ++ take count rest;
+  split = w.split ∙ ap (λ xs. w.front ++ xs) (sym (take-append-drop count rest)) ∙ sym (append_assoc w.front (take count rest) (drop count rest));
+  holds = known_append old new _ _ w.holds h ∙ ap (λ xs. Some xs) (append_assoc bytes w.front (take count rest));
+}
 
 -- with nothing left the piece is put
 pub put_whole : (bytes piece rest : List ℕ) (held : Option (List ℕ)) → Written bytes piece rest held → length rest ≡ 0 →

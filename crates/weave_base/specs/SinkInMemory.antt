@@ -43,7 +43,7 @@ write_answer s piece = if write_succeeds s piece then Ok tt else Err (record {})
 -- what the next write leaves
 abbrev pub after_write : SinkInMemory → List ℕ → SinkInMemory
 after_write s piece = record s {
-    held = s.held ++ written_part s piece;
-    calls = one_more s.calls;
-    faults = if write_succeeds s piece then s.faults else one_more s.faults
-  }
+  held = s.held ++ written_part s piece;
+  calls = one_more s.calls;
+  faults = if write_succeeds s piece then s.faults else one_more s.faults;
+}

@@ -1,6 +1,6 @@
 //! The files of the system.
 
-ghost use Rattle.std.specs.Prelude.{◌≡◌, ℕ, ◌+◌, List, Some, None, IfOk, IsErrOf};
+ghost use Rattle.std.specs.Prelude.{◌≡◌, ℕ, ◌+◌, ◌≤◌, List, length, Some, None, IfOk, IsErrOf};
 ghost use Rattle.weave_base.specs.Reading.{IsReadWithin, IsChunk};
 
 use crate::count::count_up;
@@ -63,7 +63,9 @@ fn read_file<R: std::rt::Files>(
     alloc: Global,
     name: &str,
     limit: u64,
-) -> Result<Vec<u8>, FileFault> {
+) -> Result<Vec<u8>, FileFault>
+    ensures { IfOk result (λ bytes. length bytes.items ≤ limit) }
+{
     match fs::open(rt, name) {
         Ok(mut file) => read_within(&mut file, alloc, limit),
         Err(_) => Err(FileFault::Failed),
@@ -72,7 +74,8 @@ fn read_file<R: std::rt::Files>(
 
 // Reads to the end, or one byte past the limit.
 fn read_within<R: Read>(reader: &mut R, alloc: Global, limit: u64) -> Result<Vec<u8>, FileFault>
-    ensures { (bytes : List ℕ) → R.remaining reader.old ≡ Some bytes → IsReadWithin bytes limit result }
+    ensures read { (bytes : List ℕ) → R.remaining reader.old ≡ Some bytes → IsReadWithin bytes limit result }
+    ensures bounded { IfOk result (λ bytes. length bytes.items ≤ limit) }
 {
     let mut bytes = Vec::new(alloc);
     'chunks: for _ in 0..u64::MAX {
@@ -89,11 +92,7 @@ fn read_within<R: Read>(reader: &mut R, alloc: Global, limit: u64) -> Result<Vec
 }
 
 // Reads some bytes behind those that are there, at most one more than `left`, and answers how many.
-fn read_chunk<R: Read>(
-    reader: &mut R,
-    bytes: &mut Vec<u8>,
-    left: u64,
-) -> Result<usize, FileFault>
+fn read_chunk<R: Read>(reader: &mut R, bytes: &mut Vec<u8>, left: u64) -> Result<usize, FileFault>
     ensures read { IfOk result
         (IsChunk bytes.old.items bytes.new.items (R.remaining reader.old) (R.remaining reader.new) (left + 1)) }
     ensures short { ¬ IsErrOf result FileFault.TooLong }
@@ -129,7 +128,10 @@ mod tests {
         let cut = files.load(alloc, path.as_str(), len - 1);
         let none = files.load(alloc, missing.as_str(), len);
         fs::remove_file(&rt, path.as_str())?;
-        assert_eq!(rt; whole.as_ref().ok().map(|v| v.as_slice()), Some(bytes.as_slice()));
+        assert_eq!(rt;
+            whole.as_ref().ok().map(|v| v.as_slice()),
+            Some(bytes.as_slice())
+        );
         assert_eq!(rt; cut.err(), Some(FileFault::TooLong));
         assert_eq!(rt; none.err(), Some(FileFault::Failed));
         Ok(())

@@ -2,14 +2,14 @@
 #![tactic(auto)]
 
 mod count;
-pub mod dir_files;
-pub mod mem_files;
-pub mod mem_sink;
-pub mod mem_source;
-pub mod outside;
-pub mod status;
-pub mod std_sink;
-pub mod std_source;
+mod dir_files;
+mod mem_files;
+mod mem_sink;
+mod mem_source;
+mod outside;
+mod status;
+mod std_sink;
+mod std_source;
 
 pub use dir_files::DirFiles;
 pub use mem_files::MemFiles;

@@ -8,5 +8,5 @@ put-tells c =
     let piece = c.args.piece.now in
     record {
       put = λ bytes told. written_is_put sink _ bytes piece _ c.ensures.answer c.ensures.after told;
-      cause = written_has_cause sink _ piece _ c.ensures.answer c.ensures.after
+      cause = written_has_cause sink _ piece _ c.ensures.answer c.ensures.after;
     }
