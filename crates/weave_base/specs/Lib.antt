@@ -1,2 +1,9 @@
+pub mod Calls
 pub mod Causes
 pub mod Contents
+pub mod FilesInMemory
+pub mod MemFile
+pub mod Reading
+pub mod SinkInMemory
+pub mod SourceInMemory
+pub mod Statuses

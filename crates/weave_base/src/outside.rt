@@ -4,12 +4,12 @@
 //! contents hold where it tells them. Each counts its faults; a fault is answered only where the count rose in the
 //! call, or stands at the last value of a `u64`.
 
-ghost use Rattle.std.specs.Prelude.{◌≡◌, ℕ, List, Option, Some, IsErr, IsErrOf};
+ghost use Rattle.std.specs.Prelude.{◌≡◌, ℕ, ◌≤◌, List, length, Option, Some, IfOk, IsErr, IsErrOf};
 ghost use Rattle.weave_base.specs.Causes.{HasCause, Rose};
 ghost use Rattle.weave_base.specs.Contents.{File, IsLoaded, failed_name, IsTaken, IsPut};
 ghost use Rattle.weave_base.specs.declared.outside.FileFault.TheVariants as fault;
 
-use std::alloc::Global;
+use std::alloc::{AllocError, Global};
 
 /// A call of the outside failed.
 #[derive(Clone, Copy, Debug, PartialEq, Eq)]
@@ -26,6 +26,14 @@ pub enum FileFault {
     Memory,
 }
 
+impl From<AllocError> for FileFault {
+    ghost from_gives = { λ _ e. e ≡ fault.Memory };
+
+    fn from(_: AllocError) -> FileFault {
+        FileFault::Memory
+    }
+}
+
 /// Files by their names.
 pub trait Files {
     /// The files, where they are told. Of two files of one name the first counts.
@@ -40,6 +48,7 @@ pub trait Files {
     /// The bytes of a file of at most `limit` bytes.
     fn load(&mut self, alloc: Global, name: &str, limit: u64) -> Result<Vec<u8>, FileFault>
         ensures loaded { (files : List File) → contents self.old ≡ Some files → IsLoaded files name.now limit result }
+        ensures bounded { IfOk result (λ bytes. length bytes.items ≤ limit) }
         ensures unchanged { contents self.new ≡ contents self.old }
         ensures cause { HasCause (faults self.old) (faults self.new) (IsErrOf result fault.Failed) }
         ensures failed_name { last_failed self.new ≡ failed_name (last_failed self.old) name.now result };

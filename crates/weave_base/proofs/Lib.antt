@@ -1,0 +1,4 @@
+pub mod Chunks
+pub mod Search
+pub mod Writes
+pub mod Written
