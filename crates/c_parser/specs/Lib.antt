@@ -1,3 +1,7 @@
 pub mod Program
 pub mod Spelling
+pub mod FixedWords
 pub mod FirstForm
+pub mod Reading
+pub mod TokenText
+pub mod Lexemes

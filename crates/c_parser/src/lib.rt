@@ -1,4 +1,11 @@
 //! Concrete trees of C, and their readers.
 #![tactic(auto)]
 
+mod fault;
+mod fixed;
+mod lexeme;
+mod names;
+mod reader;
+mod scope;
+mod statement;
 pub mod tree;
