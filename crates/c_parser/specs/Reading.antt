@@ -197,58 +197,66 @@ declaration found = do
 unfoldable pub declarations : Parser (List (List ℕ))
 declarations = many begins_declaration declaration
 
-unfoldable pub property : List (List ℕ) → Parser Property
-property globals = do
+unfoldable pub property_head : Parser (List ℕ)
+property_head = do
   expect_all (fixed.Open ∷ fixed.Meta ∷ fixed.Prop ∷ fixed.Comma ∷ fixed.Name ∷ fixed.LeftParen ∷ [])
   x ← name
-  expect_all (fixed.RightParen ∷ fixed.Comma ∷ fixed.Targets ∷ fixed.LeftParen ∷ fixed.All ∷ fixed.RightParen ∷ fixed.Comma ∷ [])
-  expect_all (fixed.Context ∷ fixed.LeftParen ∷ fixed.Writing ∷ fixed.RightParen ∷ fixed.Comma ∷ [])
-  expect_all (fixed.Separated ∷ fixed.LeftParen ∷ fixed.Written ∷ fixed.Comma ∷ fixed.Ampersand ∷ [])
-  i ← variable (length globals) globals
+  expect_all (fixed.RightParen ∷ fixed.Comma ∷ fixed.Targets ∷ fixed.LeftParen ∷ fixed.All ∷ fixed.RightParen ∷ fixed.Comma
+    ∷ fixed.Context ∷ fixed.LeftParen ∷ fixed.Writing ∷ fixed.RightParen ∷ fixed.Comma
+    ∷ fixed.Separated ∷ fixed.LeftParen ∷ fixed.Written ∷ fixed.Comma ∷ fixed.Ampersand ∷ [])
+  pure x
+
+unfoldable pub property : ℕ → List (List ℕ) → Parser Property
+property variables names = do
+  x ← property_head
+  i ← variable variables names
   expect_all (fixed.RightParen ∷ fixed.Semicolon ∷ fixed.Close ∷ [])
   pure (record { name = x; variable = i })
 
-unfoldable pub optional_property : Mode → List (List ℕ) → Parser (Option Property)
-optional_property m globals s = if not (is_woven m) && is_at 0 fixed.Open s.words then and_then (property globals s) (λ p. pure (Some p)) else Some (None, s)
+unfoldable pub optional_property : Mode → ℕ → List (List ℕ) → Parser (Option Property)
+optional_property m variables names s =
+    if not (is_woven m) && is_at 0 fixed.Open s.words then and_then (property variables names s) (λ p. pure (Some p)) else Some (None, s)
 
--- `f ( void ) {` and the body
-unfoldable pub function_rest : Mode → List (List ℕ) → List (List ℕ) → List ℕ → Parser Function
-function_rest m globals names x = do
+-- `( void ) {`, the body and `}`, after the name x
+unfoldable pub function_rest : Mode → ℕ → List (List ℕ) → List ℕ → Parser Function
+function_rest m variables names x = do
   expect_all (fixed.LeftParen ∷ fixed.Void ∷ fixed.RightParen ∷ fixed.LeftBrace ∷ [])
-  statements ← body m (length globals) names
+  statements ← body m variables names
   expect fixed.RightBrace
   pure (record { name = x; body = statements })
 
-unfoldable pub function_head : List (List ℕ) → Parser (List ℕ)
-function_head names = do
+unfoldable pub function : Mode → ℕ → List (List ℕ) → Parser Function
+function m variables names = do
   spend
   expect fixed.Void
-  new_name names
-
-unfoldable pub function : Mode → List (List ℕ) → List Function → Parser Function
-function m globals found = do
-  x ← function_head (globals ++ names_of found)
-  function_rest m globals (globals ++ names_of found) x
+  x ← new_name names
+  function_rest m variables names x
 
 unfoldable pub functions : Mode → List (List ℕ) → Parser (List Function)
-functions m globals = many (is_at 0 fixed.Void) (function m globals)
+functions m globals = many (is_at 0 fixed.Void) (λ found. function m (length globals) (globals ++ names_of found))
 
-unfoldable pub main_function : Mode → List (List ℕ) → List Function → Parser Function
-main_function m globals others = do
+unfoldable pub main_function : Mode → ℕ → List (List ℕ) → Parser Function
+main_function m variables names = do
   spend
   expect_all (fixed.Int ∷ fixed.Main ∷ fixed.LeftParen ∷ fixed.Void ∷ fixed.RightParen ∷ fixed.LeftBrace ∷ [])
-  statements ← body m (length globals) (globals ++ names_of others)
+  statements ← body m variables names
   expect_all (fixed.Return ∷ fixed.Zero ∷ fixed.Semicolon ∷ fixed.RightBrace ∷ [])
   pure (record { name = codes "main"; body = statements })
+
+-- the functions and then `main`, which ends the text
+unfoldable pub all_functions : Mode → List (List ℕ) → Parser (List Function)
+all_functions m globals = do
+  others ← functions m globals
+  main ← main_function m (length globals) (globals ++ names_of others)
+  finish
+  pure (others ++ main ∷ [])
 
 unfoldable pub program : Mode → Parser Program
 program m = do
   globals ← declarations
-  p ← optional_property m globals
-  others ← functions m globals
-  main ← main_function m globals others
-  finish
-  pure (record { globals = globals; property = p; functions = others ++ main ∷ [] })
+  p ← optional_property m (length globals) globals
+  fs ← all_functions m globals
+  pure (record { globals = globals; property = p; functions = fs })
 
 abbrev pub whole : Mode → List Word → Left
 whole m ws = record { words = ws; budget = limit m }

@@ -2,6 +2,7 @@
 #![tactic(auto)]
 
 mod fault;
+pub mod first_form;
 mod fixed;
 mod lexeme;
 mod names;

@@ -1,0 +1,4 @@
+pub mod ListFacts
+pub mod NumberFacts
+pub mod TokenFacts
+pub mod WordFacts
