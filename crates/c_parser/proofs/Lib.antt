@@ -1,8 +1,11 @@
+pub mod BodyLaws
 pub mod ListFacts
 pub mod Many
 pub mod NameLaws
+pub mod NewNames
 pub mod NumberFacts
 pub mod StatementLaws
+pub mod StatementReading
 pub mod Taking
 pub mod TokenFacts
 pub mod WordFacts
