@@ -1,9 +1,11 @@
 pub mod BodyLaws
+pub mod FunctionLaws
 pub mod ListFacts
 pub mod Many
 pub mod NameLaws
 pub mod NewNames
 pub mod NumberFacts
+pub mod ProgramLaws
 pub mod StatementLaws
 pub mod StatementReading
 pub mod Taking

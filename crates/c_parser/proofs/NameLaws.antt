@@ -52,7 +52,7 @@ cond_none true x y h = cc
 cond_none false x y h = (refl, cc)
 
 module _ (globals functions : List (List ℕ)) where
-  name_at-variable : (i : ℕ) → i < length globals → name_at (globals ++ functions) i ≡ name_at globals i
+  pub name_at-variable : (i : ℕ) → i < length globals → name_at (globals ++ functions) i ≡ name_at globals i
   name_at-variable i below = name_at-get_or (globals ++ functions) i ∙ get_or_append_left globals functions [] i below ∙ sym (name_at-get_or globals i)
 
   name_at-function : (f : ℕ) → name_at (globals ++ functions) (length globals + f) ≡ name_at functions f

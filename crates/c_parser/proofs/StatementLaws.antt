@@ -27,7 +27,7 @@ module _ (globals functions : List (List ℕ)) where
   stated : (m : Mode) (s : Left) (a b : FirstStmt) (mid rest : Left) → ◌≡◌ {A = Outcome FirstStmt} (Some (a, mid)) (Some (b, rest)) → Stated m s a mid → Stated m s b rest
   stated m s a b mid rest h i = let e = same_pair h in subst (λ x. Stated m s x rest) e.0 (subst (λ r. Stated m s a r) e.1 i)
 
-  variable-is : (s rest : Left) (i : ℕ) → variable (length globals) (globals ++ functions) s ≡ Some (i, rest) → Takes s (named (name_at globals i) ∷ []) 0 rest × (i < length globals)
+  pub variable-is : (s rest : Left) (i : ℕ) → variable (length globals) (globals ++ functions) s ≡ Some (i, rest) → Takes s (named (name_at globals i) ∷ []) 0 rest × (i < length globals)
   unfolding variable
   variable-is s rest i h =
       let x = bind_ok (name s) _ i rest h in

@@ -16,7 +16,7 @@ use Rattle.c_parser.specs.declared.tree.FirstStmt.TheVariants as stmt
 use Rattle.c_parser.specs.Program.{Function, Property, Program}
 use Rattle.c_parser.specs.Spelling.{Word, names_of}
 use Rattle.c_parser.specs.FixedWords.{is_fixed, is_name_kind, is_plain_number}
-use Rattle.c_parser.specs.FirstForm.{is_free_name, limit}
+use Rattle.c_parser.specs.FirstForm.{is_name, is_free_name, limit}
 
 -- the words that are left, and how many declarations, functions and statements may still come
 pub record Left : Type 0 where
@@ -201,6 +201,7 @@ unfoldable pub property_head : Parser (List ℕ)
 property_head = do
   expect_all (fixed.Open ∷ fixed.Meta ∷ fixed.Prop ∷ fixed.Comma ∷ fixed.Name ∷ fixed.LeftParen ∷ [])
   x ← name
+  guard (is_name x)
   expect_all (fixed.RightParen ∷ fixed.Comma ∷ fixed.Targets ∷ fixed.LeftParen ∷ fixed.All ∷ fixed.RightParen ∷ fixed.Comma
     ∷ fixed.Context ∷ fixed.LeftParen ∷ fixed.Writing ∷ fixed.RightParen ∷ fixed.Comma
     ∷ fixed.Separated ∷ fixed.LeftParen ∷ fixed.Written ∷ fixed.Comma ∷ fixed.Ampersand ∷ [])

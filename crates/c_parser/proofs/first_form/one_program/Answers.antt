@@ -1,4 +1,4 @@
-use Rattle.c_parser.proofs.BodyLaws.{body-is, body-gives, declarations-gives}
+use Rattle.c_parser.proofs.ProgramLaws.{functions_words-written}
 use Rattle.c_parser.proofs.first_form.one_program.Goals as goal
 
 pub returns : goal.returns
