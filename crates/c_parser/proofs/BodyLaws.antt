@@ -37,6 +37,9 @@ total-length (x ∷ xs) = let e = total-length xs in omega arith
 pub taken_as : {s rest : Left} {ws vs : List Word} {c d : ℕ} → Takes s ws c rest → ws ≡ vs → c ≡ d → Takes s vs d rest
 taken_as {s = s} {rest = rest} {ws = ws} {d = d} h e f = subst (λ v. Takes s v d rest) e (subst (λ n. Takes s ws n rest) f h)
 
+pub ends_at : {s mid rest : Left} {ws : List Word} {c : ℕ} → Takes s ws c mid → mid ≡ rest → Takes s ws c rest
+ends_at {s = s} {ws = ws} {c = c} h e = subst (λ r. Takes s ws c r) e h
+
 -- ---- bodies
 module _ (m : Mode) (globals functions : List (List ℕ)) where
   pub body-is : (s rest : Left) (xs : List FirstStmt) → body m (length globals) (globals ++ functions) s ≡ Some (xs, rest)

@@ -10,4 +10,5 @@ pub mod StatementLaws
 pub mod StatementReading
 pub mod Taking
 pub mod TokenFacts
+pub mod WholeLaws
 pub mod WordFacts

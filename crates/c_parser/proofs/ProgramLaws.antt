@@ -35,7 +35,7 @@ module _ (m : Mode) (globals earlier later : List (List ℕ)) where
   statement_words-more stmt.Empty fits = refl
   statement_words-more (stmt.Assert y x) fits = refl
 
-  body_words-more : (xs : List FirstStmt) → AllByRecursion (StatementFits m (length globals) (length earlier)) xs
+  pub body_words-more : (xs : List FirstStmt) → AllByRecursion (StatementFits m (length globals) (length earlier)) xs
       → flat_map (statement_words globals earlier) xs ≡ flat_map (statement_words globals (earlier ++ later)) xs
   body_words-more [] fits = refl
   body_words-more (x ∷ xs) fits = (λ i. statement_words-more x fits.0 i ++ body_words-more xs fits.1 i)
@@ -109,14 +109,14 @@ module _ (globals : List (List ℕ)) where
   source_mode mode.Source h = refl
   source_mode mode.Woven h = cc
 
-  record PropertyTaken (m : Mode) (s : Left) (o : Option Property) (rest : Left) : Type 0 where
+  pub record PropertyTaken (m : Mode) (s : Left) (o : Option Property) (rest : Left) : Type 0 where
     pub takes : Takes s (optional_property_words globals o) 0 rest
     pub fits : PropertyFits m (length globals) o
 
   property_taken : (m : Mode) (s : Left) (a o : Option Property) (mid rest : Left) → ◌≡◌ {A = Outcome (Option Property)} (Some (a, mid)) (Some (o, rest)) → PropertyTaken m s a mid → PropertyTaken m s o rest
   property_taken m s a o mid rest h t = let e = same_pair h in subst (λ x. PropertyTaken m s x rest) e.0 (subst (λ r. PropertyTaken m s a r) e.1 t)
 
-  optional_property-is : (m : Mode) (s rest : Left) (o : Option Property) → optional_property m (length globals) globals s ≡ Some (o, rest) → PropertyTaken m s o rest
+  pub optional_property-is : (m : Mode) (s rest : Left) (o : Option Property) → optional_property m (length globals) globals s ≡ Some (o, rest) → PropertyTaken m s o rest
   unfolding optional_property
   optional_property-is m s rest o h = ⊎_elim some none (chosen (not (is_woven m) && is_at 0 fixed.Open s.words) (and_then (property (length globals) globals s) (λ p r. Some (Some p, r))) (Some (None, s)) _ h)
     where
@@ -137,7 +137,7 @@ module _ (globals : List (List ℕ)) where
         ap (λ names. variable_of (length globals) names (name_at globals p.variable)) (sym (append-nil globals)) ∙ variable_of-at globals [] (subst AreDistinct (sym (append-nil globals)) distinct) p.variable below in
       rw (is, at) refl
 
-  optional_property-gives : (m : Mode) → AreDistinct globals → (o : Option Property) (rest : Left) → PropertyFits m (length globals) o → is_at 0 fixed.Open rest.words ≡ false
+  pub optional_property-gives : (m : Mode) → AreDistinct globals → (o : Option Property) (rest : Left) → PropertyFits m (length globals) o → is_at 0 fixed.Open rest.words ≡ false
       → optional_property m (length globals) globals (before (optional_property_words globals o) 0 rest) ≡ Some (o, rest)
   unfolding optional_property is_at is_fixed
   optional_property-gives mode.Source distinct None rest fits ends = let zero_more : 0 + rest.budget ≡ rest.budget = omega arith in rw (zero_more, ends) refl
