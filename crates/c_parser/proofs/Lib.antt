@@ -6,6 +6,7 @@ pub mod NameLaws
 pub mod NewNames
 pub mod NumberFacts
 pub mod ProgramLaws
+pub mod Spending
 pub mod StatementLaws
 pub mod StatementReading
 pub mod Taking

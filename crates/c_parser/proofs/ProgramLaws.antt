@@ -83,13 +83,12 @@ module _ (globals : List (List ℕ)) where
   property_head-is s rest x h =
       let o = bind_ok (expect_all opening s) _ x rest h in
       let n = bind_ok (name o.mid) _ x rest o.second in
-      let g = bind_ok (guard (is_name n.value) n.mid) _ x rest n.second in
-      let p = guard-passes (is_name n.value) n.mid g.mid g.value g.first in
-      let c = bind_ok (expect_all middle g.mid) _ x rest g.second in
-      let e = same_pair c.second in
-      let named_here : Takes o.mid (named n.value ∷ []) 0 g.mid = subst (λ r. Takes o.mid (named n.value ∷ []) 0 r) p.1 (name-takes o.mid n.mid n.value n.first) in
-      let takes : Takes s (head_words n.value) 0 c.mid = expect_all-takes opening s o.mid o.value o.first then named_here then expect_all-takes middle g.mid c.mid c.value c.first in
-      (subst (λ y. Takes s (head_words y) 0 rest) e.0 (subst (λ r. Takes s (head_words n.value) 0 r) e.1 takes), subst (λ y. is_name y ≡ true) e.0 p.0)
+      let c = bind_ok (expect_all middle n.mid) _ x rest n.second in
+      let g = bind_ok (guard (is_name n.value) c.mid) _ x rest c.second in
+      let p = guard-passes (is_name n.value) c.mid g.mid g.value g.first in
+      let e = same_pair g.second in
+      let takes : Takes s (head_words n.value) 0 c.mid = expect_all-takes opening s o.mid o.value o.first then name-takes o.mid n.mid n.value n.first then expect_all-takes middle n.mid c.mid c.value c.first in
+      (subst (λ y. Takes s (head_words y) 0 rest) e.0 (subst (λ r. Takes s (head_words n.value) 0 r) (p.1 ∙ e.1) takes), subst (λ y. is_name y ≡ true) e.0 p.0)
 
   property-is : (s rest : Left) (p : Property) → property (length globals) globals s ≡ Some (p, rest) → Takes s (property_words globals p) 0 rest × (is_name p.name ≡ true) × (p.variable < length globals)
   unfolding property

@@ -201,10 +201,10 @@ unfoldable pub property_head : Parser (List ℕ)
 property_head = do
   expect_all (fixed.Open ∷ fixed.Meta ∷ fixed.Prop ∷ fixed.Comma ∷ fixed.Name ∷ fixed.LeftParen ∷ [])
   x ← name
-  guard (is_name x)
   expect_all (fixed.RightParen ∷ fixed.Comma ∷ fixed.Targets ∷ fixed.LeftParen ∷ fixed.All ∷ fixed.RightParen ∷ fixed.Comma
     ∷ fixed.Context ∷ fixed.LeftParen ∷ fixed.Writing ∷ fixed.RightParen ∷ fixed.Comma
     ∷ fixed.Separated ∷ fixed.LeftParen ∷ fixed.Written ∷ fixed.Comma ∷ fixed.Ampersand ∷ [])
+  guard (is_name x)
   pure x
 
 unfoldable pub property : ℕ → List (List ℕ) → Parser Property

@@ -161,8 +161,10 @@ fn function_rest(
     scope: &Scope<'_>,
     name: &str,
 ) -> Result<FirstFunction, Fault>
-    requires { length scope.now.names < 2 ^ 32 }
-    ensures { Reads function_of (spec.function_rest scope.now.mode scope.now.variables scope.now.names name.now reader.old) result reader.new }
+    requires room { length scope.now.names < 2 ^ 32 }
+    requires variables { scope.now.variables ≤ length scope.now.names }
+    ensures read { Reads function_of (spec.function_rest scope.now.mode scope.now.variables scope.now.names name.now reader.old) result reader.new }
+    ensures named { IfOk result (λ f. string_bytes f.name ≡ name.now) }
 {
     reader.expect_all(&[
         Fixed::LeftParen,
@@ -185,7 +187,8 @@ fn function<'a>(
     reader: &mut Reader<'a>,
     scope: &mut Scope<'a>,
 ) -> Result<FirstFunction, Fault>
-    requires { length scope.old.names < 2 ^ 32 }
+    requires room { length scope.old.names < 2 ^ 32 }
+    requires variables { scope.old.variables ≤ length scope.old.names }
     ensures read { Reads function_of (spec.function scope.old.mode scope.old.variables scope.old.names reader.old) result reader.new }
     ensures named { IfOk result (λ f. scope.new.names ≡ scope.old.names ++ string_bytes f.name ∷ []) }
     ensures mode { scope.new.mode ≡ scope.old.mode }
@@ -226,7 +229,8 @@ fn main_function(
     reader: &mut Reader<'_>,
     scope: &Scope<'_>,
 ) -> Result<FirstFunction, Fault>
-    requires { length scope.now.names < 2 ^ 32 }
+    requires room { length scope.now.names < 2 ^ 32 }
+    requires variables { scope.now.variables ≤ length scope.now.names }
     ensures { Reads function_of (spec.main_function scope.now.mode scope.now.variables scope.now.names reader.old) result reader.new }
 {
     reader.spend()?;

@@ -1,5 +1,5 @@
 //! Statements and bodies.
-ghost use Rattle.std.specs.Prelude.{[], ◌<◌, ◌^◌, length};
+ghost use Rattle.std.specs.Prelude.{◌≡◌, [], ◌<◌, ◌≤◌, ◌^◌, length};
 ghost use Rattle.c_parser.specs.Reading as spec;
 ghost use Rattle.c_parser.specs.Reading.{Reads};
 
@@ -119,17 +119,25 @@ fn next_statement(reader: &mut Reader<'_>, scope: &Scope<'_>) -> Result<FirstStm
     statement(reader, scope)
 }
 
+#[tactic(auto, unfolding(crate::specs::Reading::body_goes_on))]
+fn body_goes_on(reader: &Reader<'_>) -> bool
+    ensures { result ≡ spec.body_goes_on reader.now.words }
+{
+    !(reader.is_at(0, Fixed::RightBrace) || reader.is_at(0, Fixed::Return))
+}
+
 /// The statements up to the body's end.
 pub fn body(
     alloc: Global,
     reader: &mut Reader<'_>,
     scope: &Scope<'_>,
 ) -> Result<Vec<FirstStmt>, Fault>
-    requires { length scope.now.names < 2 ^ 32 }
+    requires room { length scope.now.names < 2 ^ 32 }
+    requires variables { scope.now.variables ≤ length scope.now.names }
     ensures { Reads (λ v. v.items) (spec.body scope.now.mode scope.now.variables scope.now.names reader.old) result reader.new }
 {
     let mut found = Vec::new(alloc);
-    while !reader.is_at(0, Fixed::RightBrace) && !reader.is_at(0, Fixed::Return) {
+    while body_goes_on(reader) {
         found.push(next_statement(reader, scope)?)?;
     }
     Ok(found)
