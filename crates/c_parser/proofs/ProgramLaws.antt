@@ -18,7 +18,7 @@ use Rattle.c_parser.specs.Program.{Function, Property, Program}
 use Rattle.c_parser.specs.Spelling.{Word, words_of, names_of, name_at, statement_words, declaration_words, function_words, main_words, functions_words, property_words, optional_property_words, program_words, named, keyword, mark, number as number_word}
 use Rattle.c_parser.specs.FirstForm.{StatementFits, BodiesFit, PropertyFits, IsFirstForm, Spells, size, limit, is_free_name, is_name}
 use Rattle.c_parser.specs.FixedWords.{is_fixed, fixed_word}
-use Rattle.c_parser.specs.Reading.{Left, Outcome, Parser, and_then, guard, take_word, is_at, expect, expect_all, name, variable, variable_of, is_woven, property_head, property, optional_property, begins_declaration, declarations, functions, main_function, finish, all_functions, program, whole}
+use Rattle.c_parser.specs.Reading.{Left, Outcome, Parser, and_then, guard, take_word, is_at, expect, expect_all, name, variable, variable_of, is_woven, property_middle, property_head, property, optional_property, begins_declaration, declarations, functions, main_function, finish, all_functions, program, whole}
 use Rattle.c_parser.proofs.Taking.{Takes, Takes-none, Takes-begins, ◌then◌, before, Bound, bind_ok, gives_bind, same_pair, chosen, guard-passes, expect-takes, expect_all-takes, name-takes}
 use Rattle.c_parser.proofs.NameLaws.{AreDistinct, variable_of-at, name_at-variable}
 use Rattle.c_parser.proofs.NewNames.{IsNew, AllNew, AllNew-distinct, AllNew-from_distinct, AreDistinct-front}
@@ -79,11 +79,11 @@ module _ (globals : List (List ℕ)) where
   head_words x = map fixed_word opening ++ (named x ∷ map fixed_word middle)
 
   property_head-is : (s rest : Left) (x : List ℕ) → property_head s ≡ Some (x, rest) → Takes s (head_words x) 0 rest × (is_name x ≡ true)
-  unfolding property_head
+  unfolding property_head property_middle
   property_head-is s rest x h =
       let o = bind_ok (expect_all opening s) _ x rest h in
       let n = bind_ok (name o.mid) _ x rest o.second in
-      let c = bind_ok (expect_all middle n.mid) _ x rest n.second in
+      let c = bind_ok (property_middle n.mid) _ x rest n.second in
       let g = bind_ok (guard (is_name n.value) c.mid) _ x rest c.second in
       let p = guard-passes (is_name n.value) c.mid g.mid g.value g.first in
       let e = same_pair g.second in
@@ -130,7 +130,7 @@ module _ (globals : List (List ℕ)) where
 
   property-gives : AreDistinct globals → (p : Property) (ws : List Word) (n : ℕ) → is_name p.name ≡ true → p.variable < length globals
       → property (length globals) globals (record { words = property_words globals p ++ ws; budget = n }) ≡ Some (p, record { words = ws; budget = n })
-  unfolding property property_head variable name expect_all expect take_word is_fixed
+  unfolding property property_head property_middle variable name expect_all expect take_word is_fixed
   property-gives distinct p ws n is below =
       let at : variable_of (length globals) globals (name_at globals p.variable) ≡ Some p.variable =
         ap (λ names. variable_of (length globals) names (name_at globals p.variable)) (sym (append-nil globals)) ∙ variable_of-at globals [] (subst AreDistinct (sym (append-nil globals)) distinct) p.variable below in

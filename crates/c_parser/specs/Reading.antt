@@ -197,13 +197,18 @@ declaration found = do
 unfoldable pub declarations : Parser (List (List ℕ))
 declarations = many begins_declaration declaration
 
+-- what stands between the property's name and its variable
+unfoldable pub property_middle : Parser (Unit {0})
+property_middle = expect_all
+    (fixed.RightParen ∷ fixed.Comma ∷ fixed.Targets ∷ fixed.LeftParen ∷ fixed.All ∷ fixed.RightParen ∷ fixed.Comma
+    ∷ fixed.Context ∷ fixed.LeftParen ∷ fixed.Writing ∷ fixed.RightParen ∷ fixed.Comma
+    ∷ fixed.Separated ∷ fixed.LeftParen ∷ fixed.Written ∷ fixed.Comma ∷ fixed.Ampersand ∷ [])
+
 unfoldable pub property_head : Parser (List ℕ)
 property_head = do
   expect_all (fixed.Open ∷ fixed.Meta ∷ fixed.Prop ∷ fixed.Comma ∷ fixed.Name ∷ fixed.LeftParen ∷ [])
   x ← name
-  expect_all (fixed.RightParen ∷ fixed.Comma ∷ fixed.Targets ∷ fixed.LeftParen ∷ fixed.All ∷ fixed.RightParen ∷ fixed.Comma
-    ∷ fixed.Context ∷ fixed.LeftParen ∷ fixed.Writing ∷ fixed.RightParen ∷ fixed.Comma
-    ∷ fixed.Separated ∷ fixed.LeftParen ∷ fixed.Written ∷ fixed.Comma ∷ fixed.Ampersand ∷ [])
+  property_middle
   guard (is_name x)
   pure x
 

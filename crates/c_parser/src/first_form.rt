@@ -84,20 +84,11 @@ fn declarations<'a>(
     Ok(found)
 }
 
-/// The property's name, up to its variable.
-#[tactic(auto, unfolding(crate::specs::Reading::property_head))]
-fn property_head<'a>(reader: &mut Reader<'a>) -> Result<&'a str, Fault>
-    ensures { Reads (λ x. x.now) (spec.property_head reader.old) result reader.new }
+/// Takes what stands between the property's name and its variable.
+#[tactic(auto, unfolding(crate::specs::Reading::property_middle))]
+fn property_middle(reader: &mut Reader<'_>) -> Result<(), Fault>
+    ensures { Reads (λ _. tt) (spec.property_middle reader.old) result reader.new }
 {
-    reader.expect_all(&[
-        Fixed::Open,
-        Fixed::Meta,
-        Fixed::Prop,
-        Fixed::Comma,
-        Fixed::Name,
-        Fixed::LeftParen,
-    ])?;
-    let name = reader.name()?;
     reader.expect_all(&[
         Fixed::RightParen,
         Fixed::Comma,
@@ -116,7 +107,24 @@ fn property_head<'a>(reader: &mut Reader<'a>) -> Result<&'a str, Fault>
         Fixed::Written,
         Fixed::Comma,
         Fixed::Ampersand,
+    ])
+}
+
+/// The property's name, up to its variable.
+#[tactic(auto, unfolding(crate::specs::Reading::property_head))]
+fn property_head<'a>(reader: &mut Reader<'a>) -> Result<&'a str, Fault>
+    ensures { Reads (λ x. x.now) (spec.property_head reader.old) result reader.new }
+{
+    reader.expect_all(&[
+        Fixed::Open,
+        Fixed::Meta,
+        Fixed::Prop,
+        Fixed::Comma,
+        Fixed::Name,
+        Fixed::LeftParen,
     ])?;
+    let name = reader.name()?;
+    property_middle(reader)?;
     Ok(name)
 }
 
