@@ -1,5 +1,5 @@
 -- Classes of bytes, and the keywords of C (C11 5.2.1, 6.4.1, 6.4.2.1, 6.4.3).
-use Rattle.std.specs.Prelude.{ℕ, Bool, true, false, ◌&&◌, ◌||◌, ◌==◌, nat_le, nat_eq, List, [], ◌∷◌, codes}
+use Rattle.std.specs.Prelude.{ℕ, Bool, ◌&&◌, ◌||◌, ◌==◌, nat_le, List, [], ◌∷◌, codes}
 use Rattle.std.specs.List.{list_any}
 use Rattle.std.specs.Str.{bytes_eq}
 
@@ -24,11 +24,6 @@ is_word c = is_letter c || is_digit c
 -- a byte that may stand in a preprocessing number after its first
 abbrev pub is_number_part : ℕ → Bool
 is_number_part c = is_word c || c == 46
-
--- each byte passes the test
-unfoldable pub each : (ℕ → Bool) → List ℕ → Bool
-each test [] = true
-each test (c ∷ cs) = test c && each test cs
 
 unfoldable pub keywords : List (List ℕ)
 keywords =

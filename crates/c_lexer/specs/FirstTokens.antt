@@ -1,15 +1,15 @@
 -- The tokens of a text of the first form: at each place that is no blank, the longest token that begins there
 -- (C11 6.4, paragraph 4). There are no comments in such a text, and `/*@` and `*/` are tokens of their own.
-use Rattle.std.specs.Prelude.{◌≡◌, ℕ, ◌+◌, ◌-◌, ◌<◌, ◌≤◌, Bool, true, false, not, ◌&&◌, ◌||◌, ◌==◌, List, [], ◌∷◌, length, take, drop, codes}
-use Rattle.std.specs.List.{list_any}
+use Rattle.std.specs.Prelude.{◌≡◌, ℕ, ◌+◌, ◌≤◌, Bool, true, false, not, ◌&&◌, ◌==◌, List, [], ◌∷◌, length, take, drop, codes}
+use Rattle.std.specs.List.{list_any, list_all}
 use Rattle.std.specs.Str.{bytes_eq}
 use Rattle.c_lexer.specs.declared.token.TokenKind.{TokenKind}
 use Rattle.c_lexer.specs.declared.token.TokenKind.TheVariants as kind
-use Rattle.c_lexer.specs.declared.token.IntSuffix.{IntSuffix}
 use Rattle.c_lexer.specs.declared.token.IntSuffix.TheVariants as suffix
 use Rattle.c_lexer.specs.declared.token.Token.{Token}
-use Rattle.c_lexer.specs.Bytes.{is_blank, is_digit, is_letter, is_word, is_number_part, is_between, each, is_keyword}
-use Rattle.c_lexer.specs.Positions.{Position, start, step, after, place_of}
+use Rattle.c_lexer.specs.Bytes.{is_blank, is_digit, is_letter, is_word, is_number_part, is_between, is_keyword}
+use Rattle.c_lexer.specs.declared.position.Position.{Position}
+use Rattle.c_lexer.specs.Positions.{start, step, after, place_of}
 
 unfoldable pub punctuation : List (List ℕ)
 punctuation =
@@ -18,12 +18,12 @@ punctuation =
 -- a letter and then letters and digits
 unfoldable pub is_identifier : List ℕ → Bool
 is_identifier [] = false
-is_identifier (c ∷ cs) = is_letter c && each is_word cs
+is_identifier (c ∷ cs) = is_letter c && list_all is_word cs
 
 -- a preprocessing number (C11 6.4.8, in the profile without `.` before the first digit and without exponent signs)
 unfoldable pub is_number : List ℕ → Bool
 is_number [] = false
-is_number (c ∷ cs) = is_digit c && each is_number_part cs
+is_number (c ∷ cs) = is_digit c && list_all is_number_part cs
 
 unfoldable pub is_backslash_word : List ℕ → Bool
 is_backslash_word [] = false
@@ -42,7 +42,7 @@ is_token _ bytes = false
 unfoldable pub is_decimal : List ℕ → Bool
 is_decimal [] = false
 is_decimal (c ∷ []) = is_digit c
-is_decimal (c ∷ d ∷ cs) = is_between 49 57 c && each is_digit (d ∷ cs)
+is_decimal (c ∷ d ∷ cs) = is_between 49 57 c && list_all is_digit (d ∷ cs)
 
 -- a number has to be decimal; of the other kinds each token may stand
 unfoldable pub is_allowed : TokenKind → List ℕ → Bool

@@ -1,11 +1,7 @@
--- Where a byte stands in a text: how many bytes are before it, and its line and column, counted from 1.
+-- Where reading stands in a text: the positions that follow one another as bytes are read.
 use Rattle.std.specs.Prelude.{ℕ, ◌+◌, ◌==◌, if◌then◌else◌, List, [], ◌∷◌}
 use Rattle.c_lexer.specs.declared.token.Place.{Place}
-
-pub record Position : Type 0 where
-  pub offset : ℕ
-  pub line : ℕ
-  pub column : ℕ
+use Rattle.c_lexer.specs.declared.position.Position.{Position}
 
 -- where a text begins
 abbrev pub start : Position
