@@ -5,6 +5,7 @@ use mir.Val.{to_z, of_z}
 use Rattle.std.proofs.lemmas.Int.{ints}
 use Rattle.std.proofs.lemmas.Result.{OkIff-at_ok, OkIff-at_err}
 use Rattle.std.specs.Prelude.{nat_le}
+use Rattle.std.specs.List.{list_all}
 use Rattle.std.specs.Str.{IsAscii, bytes_eq}
 use Rattle.std.specs.Str.Parse.{AllDigits, digits_value, ParsesSigned}
 use Rattle.std.specs.Fmt.{decimal, signed_decimal}
@@ -15,7 +16,7 @@ use Rattle.std.proofs.lemmas.Slice.Eq.{bytes_eq-Decides}
 use Rattle.std.proofs.lemmas.Str.Ascii.{IsAscii-nil, IsAscii-cons}
 use Rattle.std.proofs.lemmas.Str.Parse.{IsNumeralModel, numerals_by_value, tells_digits, parse_signed_digits}
 use Rattle.std.proofs.lemmas.Fmt.{IsAscii-from_digits, decimal-digits_value, digits_value-decimal}
-use Rattle.c_lexer.specs.Bytes.{each, is_digit, is_between}
+use Rattle.c_lexer.specs.Bytes.{is_digit, is_between}
 use Rattle.c_lexer.specs.FirstTokens.{is_decimal}
 use Rattle.c_parser.specs.Reading.{number_of}
 
@@ -25,10 +26,9 @@ own = numerals_by_value (AllDigits 10) tells_digits
 digit_between : (c : ℕ) → is_digit c ≡ true → IsInRange 48 57 c
 digit_between c h = grind (arith, nat_tests)
 
-each_digit : (cs : List ℕ) → each is_digit cs ≡ true → AllDigits 10 cs
-unfolding each
+each_digit : (cs : List ℕ) → list_all is_digit cs ≡ true → AllDigits 10 cs
 each_digit [] h = tells_digits.empty
-each_digit (c ∷ cs) h = let parts = and_parts (is_digit c) (each is_digit cs) h in tells_digits.more c cs (digit_between c parts.0) (each_digit cs parts.1)
+each_digit (c ∷ cs) h = let parts = and_parts (is_digit c) (list_all is_digit cs) h in tells_digits.more c cs (digit_between c parts.0) (each_digit cs parts.1)
 
 first_between : (c : ℕ) → is_between 49 57 c ≡ true → (49 ≤ c) × (c ≤ 57)
 first_between c h = grind (arith, nat_tests)
@@ -40,11 +40,11 @@ pub record IsDecimal (bytes : List ℕ) : Type 0 where
   pub zero_alone : get_or bytes 0 0 ≡ 48 → length bytes ≡ 1
 
 pub IsDecimal-from_test : (bytes : List ℕ) → is_decimal bytes ≡ true → IsDecimal bytes
-unfolding is_decimal each
+unfolding is_decimal
 IsDecimal-from_test [] h = cc
 IsDecimal-from_test (c ∷ []) h = record { digits = tells_digits.more c [] (digit_between c h) tells_digits.empty; some = omega arith; zero_alone = λ e. refl }
 IsDecimal-from_test (c ∷ d ∷ cs) h =
-    let parts = and_parts (is_between 49 57 c) (each is_digit (d ∷ cs)) h in
+    let parts = and_parts (is_between 49 57 c) (list_all is_digit (d ∷ cs)) h in
     let first = first_between c parts.0 in
     record {
       digits = tells_digits.more c (d ∷ cs) (omega arith, omega arith) (each_digit (d ∷ cs) parts.1);

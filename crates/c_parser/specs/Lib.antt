@@ -3,5 +3,4 @@ pub mod Spelling
 pub mod FixedWords
 pub mod FirstForm
 pub mod Reading
-pub mod TokenText
 pub mod Lexemes

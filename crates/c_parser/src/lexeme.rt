@@ -4,7 +4,7 @@ ghost use Rattle.c_parser.specs.Spelling.{word_of};
 ghost use Rattle.std.specs.Str.{IsAscii};
 ghost use Rattle.c_lexer.specs.FirstTokens.{is_allowed};
 ghost use Rattle.c_parser.specs.Reading.{number_of};
-ghost use Rattle.c_parser.specs.TokenText.{LiesIn};
+ghost use Rattle.c_lexer.specs.TokenLaws.{IsTokenOf};
 ghost use Rattle.c_parser.specs.Lexemes.{lexeme_word};
 ghost use Rattle.c_lexer.specs.declared.token.TokenKind.TheVariants as kind;
 ghost use Rattle.c_lexer.specs.declared.token.IntSuffix.TheVariants as suffix;
@@ -19,7 +19,7 @@ pub struct Lexeme<'a> {
 }
 
 pub fn lexeme_of<'a>(text: &'a [u8], token: &Token) -> Lexeme<'a>
-    requires { LiesIn text.now token.now }
+    requires { IsTokenOf text.now token.now }
     ensures { lexeme_word result ≡ word_of text.now token.now }
 {
     Lexeme {

@@ -5,8 +5,7 @@ ghost use Rattle.c_parser.specs.Spelling.{words_of};
 ghost use Rattle.c_parser.specs.FirstForm.{is_name};
 ghost use Rattle.c_parser.specs.Reading as spec;
 ghost use Rattle.c_parser.specs.Reading.{Reads};
-ghost use Rattle.c_parser.specs.TokenText.{IsAllowedWord, LiesIn};
-ghost use Rattle.c_parser.specs.Lexemes.{lexeme_word};
+ghost use Rattle.c_parser.specs.Lexemes.{lexeme_word, IsAllowedWord};
 
 use crate::fault::Fault;
 use crate::fixed::Fixed;
@@ -25,13 +24,13 @@ pub struct Reader<'a> {
 impl<'a> Model for Reader<'a> {
     ghost use Rattle.c_parser.specs.Spelling.{words_of};
     ghost use Rattle.c_parser.specs.Reading.{Left};
-    ghost use Rattle.c_parser.specs.TokenText.{AllLieIn};
+    ghost use Rattle.c_parser.specs.Lexemes.{AllTokensOf};
 
     ghost Value = { Left };
 
     ghost view = { λ r. record { words = words_of r.text.now r.tokens.now; budget = r.budget } };
 
-    ghost invariant = { λ r. AllLieIn r.text.now r.tokens.now };
+    ghost invariant = { λ r. AllTokensOf r.text.now r.tokens.now };
 }
 
 impl<'a> Reader<'a> {

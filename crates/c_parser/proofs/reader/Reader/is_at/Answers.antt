@@ -2,14 +2,14 @@ use Rattle.std.proofs.Common.{ap, ◌∙◌, refl, sym}
 use Rattle.std.proofs.lemmas.Option.{slice_get_read, slice_get_past}
 use Rattle.c_parser.specs.Reading as spec
 use Rattle.c_parser.specs.FixedWords.{is_fixed}
-use Rattle.c_parser.proofs.TokenFacts.{lies_at}
+use Rattle.c_parser.proofs.TokenFacts.{token_at_place}
 use Rattle.c_parser.proofs.WordFacts.{is_at-token, is_at-past}
 use Rattle.c_parser.proofs.reader.Reader.is_at.Goals as goal
 
 pub lexeme_of-found-requires : goal.lexeme_of-found-requires
 lexeme_of-found-requires c =
     let h = c.in-Some.ensures.lookup in
-    lies_at _ _ c.args.place _ c.self.invariant (slice_get_read _ _ c.args.place _ refl h.3.0 h.1)
+    token_at_place _ _ c.args.place _ c.self.invariant (slice_get_read _ _ c.args.place _ refl h.3.0 h.1)
 
 pub returns-in-None : goal.returns-in-None
 returns-in-None c =
