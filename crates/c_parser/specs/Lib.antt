@@ -1,3 +1,6 @@
 pub mod Program
 pub mod Spelling
+pub mod FixedWords
 pub mod FirstForm
+pub mod Reading
+pub mod Lexemes

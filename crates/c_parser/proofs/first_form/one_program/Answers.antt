@@ -1,0 +1,5 @@
+use Rattle.c_parser.proofs.WholeLaws.{one_program_spelled, spelled-from_read}
+use Rattle.c_parser.proofs.first_form.one_program.Goals as goal
+
+pub returns : goal.returns
+returns c = one_program_spelled
