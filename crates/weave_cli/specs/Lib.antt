@@ -1,0 +1,4 @@
+pub mod Commands
+pub mod Weaving
+pub mod Layout
+pub mod Answers
