@@ -115,7 +115,9 @@ impl<'a> Reader<'a> {
     {
         let found = self.take()?;
         match found.kind {
-            TokenKind::Number(IntSuffix::Plain) => number_in(found.bytes).ok_or(Fault::NotFirstForm),
+            TokenKind::Number(IntSuffix::Plain) => number_in(found.bytes).ok_or(
+                Fault::NotFirstForm,
+            ),
             _ => Err(Fault::NotFirstForm),
         }
     }

@@ -4,7 +4,6 @@ ghost use Rattle.c_parser.specs.Reading as spec;
 
 use crate::names::Names;
 use crate::tree::Mode;
-use std::alloc::Global;
 
 /// The variables' names and then those of the functions so far.
 #[derive(Drop)]
