@@ -9,6 +9,7 @@ use crate::tree::Mode;
 #[derive(Drop)]
 pub struct Scope<'a> {
     pub mode: Mode,
+    /// How many of the names are those of variables.
     pub variables: usize,
     pub names: Names<'a>,
 }
