@@ -1,15 +1,14 @@
 -- Bodies and declarations, both ways.
-use Rattle.std.proofs.Common.{◌≡◌, ◌≢◌, ℕ, zero, suc, ◌+◌, ◌-◌, ◌<◌, ◌≤◌, Bool, true, false, not, ◌&&◌, List, [], ◌∷◌, ◌++◌, length, Option, Some, None, refl, sym, ap, subst, ◌∙◌, append-nil, arith}
-use Rattle.std.specs.List.{AllByRecursion, flat_map, list_any}
-use Rattle.std.specs.Str.{bytes_eq}
+use Rattle.std.proofs.Common.{◌≡◌, ℕ, ◌+◌, ◌≤◌, true, false, List, [], ◌∷◌, ◌++◌, length, Some, refl, sym, ap, subst, arith}
+use Rattle.std.specs.List.{AllByRecursion, flat_map}
 use Rattle.c_parser.specs.declared.fixed.Fixed.TheVariants as fixed
 use Rattle.c_parser.specs.declared.tree.Mode.{Mode}
 use Rattle.c_parser.specs.declared.tree.FirstStmt.{FirstStmt}
-use Rattle.c_parser.specs.Spelling.{Word, statement_words, declaration_words, named}
-use Rattle.c_parser.specs.FirstForm.{StatementFits, is_free_name}
+use Rattle.c_parser.specs.Spelling.{Word, statement_words, declaration_words}
+use Rattle.c_parser.specs.FirstForm.{StatementFits}
 use Rattle.c_parser.specs.FixedWords.{is_fixed}
-use Rattle.c_parser.specs.Reading.{Left, Outcome, Parser, take_word, is_at, expect, name, new_name, spend, next_statement, many_from, many, body, body_goes_on, begins_declaration, declaration, declarations}
-use Rattle.c_parser.proofs.Taking.{Takes, ◌then◌, before, Bound, bind_ok, gives_bind, same_pair, expect-takes, spend-takes, spend-gives}
+use Rattle.c_parser.specs.Reading.{Left, take_word, is_at, expect, name, new_name, spend, next_statement, many_from, many, body, body_goes_on, begins_declaration, declaration, declarations}
+use Rattle.c_parser.proofs.Taking.{Takes, ◌then◌, before, bind_ok, gives_bind, same_pair, expect-takes, spend-takes, spend-gives}
 use Rattle.c_parser.proofs.NameLaws.{AreDistinct}
 use Rattle.c_parser.proofs.NewNames.{IsNew, AllNew, new_name-is}
 use Rattle.c_parser.proofs.Many.{total, all_written, AllFit, More, many_from-sound, many_from-complete}
@@ -49,7 +48,7 @@ module _ (m : Mode) (globals functions : List (List ℕ)) where
       let g = statement_words globals functions in
       let P = StatementFits m (length globals) (length functions) in
       let i : More (λ _. g) (λ _. 1) (λ _. P) [] s xs rest =
-        many_from-sound (λ _. g) (λ _. 1) (λ _. P) body_goes_on (next_statement m (length globals) (globals ++ functions)) (next_statement-is globals functions m) s.budget [] s rest xs h in
+      many_from-sound (λ _. g) (λ _. 1) (λ _. P) body_goes_on (next_statement m (length globals) (globals ++ functions)) (next_statement-is globals functions m) s.budget [] s rest xs h in
       let e : i.more ≡ xs = sym i.joined in
       let takes = taken_as i.takes (all_written-flat_map g P [] i.more) (total-length i.more) in
       let fit = AllFit-all g P [] i.more i.fit in
@@ -64,7 +63,7 @@ module _ (m : Mode) (globals functions : List (List ℕ)) where
       let item = next_statement m (length globals) (globals ++ functions) in
       let enough : total (λ _. 1) xs ≤ length xs + rest.budget = let e = total-length xs in omega arith in
       let i = many_from-complete (λ _. g) (λ _. 1) (λ _. P) body_goes_on item (next_statement-gives globals functions distinct m) (λ _ a ws _. statement-begins globals functions distinct m a ws) (λ _. omega arith)
-          xs (length xs + rest.budget) [] rest (AllFit-from_all g P [] xs fit) enough ends in
+      xs (length xs + rest.budget) [] rest (AllFit-from_all g P [] xs fit) enough ends in
       rw (← all_written-flat_map g P [] xs) (subst (λ n. many_from body_goes_on item (length xs + rest.budget) [] (before (all_written (λ _. g) (λ _. 1) (λ _. P) [] xs) n rest) ≡ Some (xs, rest)) (total-length xs) i)
 
 -- ---- declarations
@@ -78,7 +77,7 @@ declaration-is found s rest x h =
     let e = same_pair semicolon.second in
     let new = new_name-is found int.mid n.mid n.value n.first in
     let takes : Takes s (declaration_words n.value) 1 semicolon.mid =
-      spend-takes s one.mid one.value one.first then expect-takes fixed.Int one.mid int.mid int.value int.first then new.0 then expect-takes fixed.Semicolon n.mid semicolon.mid semicolon.value semicolon.first in
+    spend-takes s one.mid one.value one.first then expect-takes fixed.Int one.mid int.mid int.value int.first then new.0 then expect-takes fixed.Semicolon n.mid semicolon.mid semicolon.value semicolon.first in
     (subst (λ y. Takes s (declaration_words y) 1 rest) e.0 (subst (λ r. Takes s (declaration_words n.value) 1 r) e.1 takes), subst (IsNew found) e.0 new.1)
 
 pub declaration-gives : (found : List (List ℕ)) (x : List ℕ) (rest : Left) → IsNew found x → declaration found (before (declaration_words x) 1 rest) ≡ Some (x, rest)
@@ -110,12 +109,12 @@ declarations-is s rest xs h =
     let i : More (λ _. declaration_words) (λ _. 1) IsNew [] s xs rest = many_from-sound (λ _. declaration_words) (λ _. 1) IsNew begins_declaration declaration declaration-is s.budget [] s rest xs h in
     let e : i.more ≡ xs = sym i.joined in
     subst (λ ys. Takes s (flat_map declaration_words ys) (length ys) rest × AllNew [] ys) e
-        (taken_as i.takes (declarations-flat [] i.more) (total-length i.more), AllFit-new [] i.more i.fit)
+    (taken_as i.takes (declarations-flat [] i.more) (total-length i.more), AllFit-new [] i.more i.fit)
 
 pub declarations-gives : (xs : List (List ℕ)) (rest : Left) → AllNew [] xs → begins_declaration rest.words ≡ false → declarations (before (flat_map declaration_words xs) (length xs) rest) ≡ Some (xs, rest)
 unfolding declarations many
 declarations-gives xs rest new ends =
     let enough : total (λ _. 1) xs ≤ length xs + rest.budget = let e = total-length xs in omega arith in
     let i = many_from-complete (λ _. declaration_words) (λ _. 1) IsNew begins_declaration declaration declaration-gives declaration-begins (λ _. omega arith)
-        xs (length xs + rest.budget) [] rest (AllFit-from_new [] xs new) enough ends in
+    xs (length xs + rest.budget) [] rest (AllFit-from_new [] xs new) enough ends in
     rw (← declarations-flat [] xs) (subst (λ n. many_from begins_declaration declaration (length xs + rest.budget) [] (before (all_written (λ _. declaration_words) (λ _. 1) IsNew [] xs) n rest) ≡ Some (xs, rest)) (total-length xs) i)

@@ -1,17 +1,15 @@
 -- Functions and main, both ways.
-use Rattle.std.proofs.Common.{◌≡◌, ◌≢◌, ℕ, zero, suc, ◌+◌, ◌-◌, ◌<◌, ◌≤◌, Bool, true, false, not, ◌&&◌, List, [], ◌∷◌, ◌++◌, length, map, Option, Some, None, refl, sym, ap, subst, ◌∙◌, append_assoc, append-nil, arith}
+use Rattle.std.proofs.Common.{◌≡◌, ℕ, ◌+◌, true, false, List, [], ◌∷◌, ◌++◌, length, map, Some, refl, sym, ap, subst, ◌∙◌, append_assoc, append-nil, arith}
 use Rattle.std.specs.Prelude.{codes}
-use Rattle.std.specs.List.{AllByRecursion, flat_map, list_any}
-use Rattle.std.specs.Str.{bytes_eq}
+use Rattle.std.specs.List.{AllByRecursion, flat_map}
 use Rattle.c_parser.specs.declared.fixed.Fixed.TheVariants as fixed
 use Rattle.c_parser.specs.declared.tree.Mode.{Mode}
-use Rattle.c_parser.specs.declared.tree.FirstStmt.{FirstStmt}
 use Rattle.c_parser.specs.Program.{Function}
 use Rattle.c_parser.specs.Spelling.{Word, names_of, statement_words, function_words, main_words, named, keyword, mark, number as number_word}
-use Rattle.c_parser.specs.FirstForm.{StatementFits, is_free_name}
+use Rattle.c_parser.specs.FirstForm.{StatementFits}
 use Rattle.c_parser.specs.FixedWords.{is_fixed, fixed_word}
-use Rattle.c_parser.specs.Reading.{Left, Outcome, Parser, take_word, is_at, expect, expect_all, name, new_name, spend, body, body_goes_on, function_rest, function, functions, main_function, many_from, many}
-use Rattle.c_parser.proofs.Taking.{Takes, ◌then◌, before, Bound, bind_ok, gives_bind, same_pair, expect-takes, expect_all-takes, spend-takes, spend-gives}
+use Rattle.c_parser.specs.Reading.{Left, Parser, take_word, is_at, expect, expect_all, name, new_name, spend, body, body_goes_on, function_rest, function, functions, main_function, many}
+use Rattle.c_parser.proofs.Taking.{Takes, ◌then◌, before, bind_ok, gives_bind, same_pair, expect-takes, expect_all-takes, spend-takes, spend-gives}
 use Rattle.c_parser.proofs.NameLaws.{AreDistinct}
 use Rattle.c_parser.proofs.NewNames.{IsNew, new_name-is, AreDistinct-push}
 use Rattle.std.proofs.lemmas.List.{map-append}
@@ -49,10 +47,11 @@ module _ (m : Mode) (globals earlier : List (List ℕ)) where
       let cost : 0 + (length b.value + 0) ≡ length b.value = omega arith in
       let takes = taken_as (expect_all-takes opening s o.mid o.value o.first then i.0 then expect-takes fixed.RightBrace b.mid c.mid c.value c.first) refl cost in
       let words = λ (g : Function). map fixed_word opening ++ (flat_map (statement_words globals earlier) g.body ++ mark (codes "}") ∷ []) in
-      let made : Function = record { name = x; body = b.value } in
-      (sym (ap (λ g. g.name) e.0),
+      let made : Function = record { name = x; body = b.value } in (
+        sym (ap (λ g. g.name) e.0),
         subst (λ g. Takes s (words g) (length g.body) rest) e.0 (subst (λ r. Takes s (words made) (length made.body) r) e.1 takes),
-        subst (λ g. AllByRecursion (StatementFits m (length globals) (length earlier)) g.body) e.0 i.1)
+        subst (λ g. AllByRecursion (StatementFits m (length globals) (length earlier)) g.body) e.0 i.1,
+      )
 
   pub function-is : (s rest : Left) (f : Function) → function m (length globals) (globals ++ earlier) s ≡ Some (f, rest)
       → Takes s (function_words globals earlier f) (function_cost f) rest × FunctionFits m globals earlier f
@@ -64,9 +63,10 @@ module _ (m : Mode) (globals earlier : List (List ℕ)) where
       let new = new_name-is (globals ++ earlier) void.mid x.mid x.value x.first in
       let r = function_rest-is x.value x.mid rest f x.second in
       let name_takes : Takes void.mid (named f.name ∷ []) 0 x.mid = subst (λ y. Takes void.mid (named y ∷ []) 0 x.mid) (sym r.0) new.0 in
-      let cost : 1 + (0 + (0 + length f.body)) ≡ function_cost f = omega arith in
-      (taken_as (spend-takes s one.mid one.value one.first then expect-takes fixed.Void one.mid void.mid void.value void.first then name_takes then r.1) refl cost,
-        record { new = subst (IsNew (globals ++ earlier)) (sym r.0) new.1; body = r.2 })
+      let cost : 1 + (0 + (0 + length f.body)) ≡ function_cost f = omega arith in (
+        taken_as (spend-takes s one.mid one.value one.first then expect-takes fixed.Void one.mid void.mid void.value void.first then name_takes then r.1) refl cost,
+        record { new = subst (IsNew (globals ++ earlier)) (sym r.0) new.1; body = r.2 },
+      )
 
   pub main_function-is : (s rest : Left) (f : Function) → main_function m (length globals) (globals ++ earlier) s ≡ Some (f, rest)
       → Takes s (main_words globals earlier f) (function_cost f) rest × (f.name ≡ codes "main") × AllByRecursion (StatementFits m (length globals) (length earlier)) f.body
@@ -83,10 +83,11 @@ module _ (m : Mode) (globals earlier : List (List ℕ)) where
       let made : Function = record { name = codes "main"; body = b.value } in
       let cost : 1 + (0 + (length b.value + 0)) ≡ function_cost made = omega arith in
       let takes : Takes s (main_words globals earlier made) (function_cost made) c.mid =
-        taken_as (spend-takes s one.mid one.value one.first then expect_all-takes opening one.mid o.mid o.value o.first then i.0 then expect_all-takes closing b.mid c.mid c.value c.first) refl cost in
-      (subst (λ g. Takes s (main_words globals earlier g) (function_cost g) rest) e.0 (subst (λ r. Takes s (main_words globals earlier made) (function_cost made) r) e.1 takes),
+      taken_as (spend-takes s one.mid one.value one.first then expect_all-takes opening one.mid o.mid o.value o.first then i.0 then expect_all-takes closing b.mid c.mid c.value c.first) refl cost in (
+        subst (λ g. Takes s (main_words globals earlier g) (function_cost g) rest) e.0 (subst (λ r. Takes s (main_words globals earlier made) (function_cost made) r) e.1 takes),
         sym (ap (λ g. g.name) e.0),
-        subst (λ g. AllByRecursion (StatementFits m (length globals) (length earlier)) g.body) e.0 i.1)
+        subst (λ g. AllByRecursion (StatementFits m (length globals) (length earlier)) g.body) e.0 i.1,
+      )
 
   module _ (distinct : AreDistinct (globals ++ earlier)) where
     pub function-gives : (f : Function) (rest : Left) → FunctionFits m globals earlier f → function m (length globals) (globals ++ earlier) (before (function_words globals earlier f) (function_cost f) rest) ≡ Some (f, rest)
@@ -137,7 +138,7 @@ pub functions-is : (m : Mode) (globals : List (List ℕ)) (s rest : Left) (fs : 
 unfolding functions many
 functions-is m globals s rest fs h =
     let i : More (function_at globals) function_cost (FitsAfter m globals) [] s fs rest =
-      many_from-sound (function_at globals) function_cost (FitsAfter m globals) (is_at 0 fixed.Void) (item m globals) (λ found s rest f. function-is m globals (names_of found) s rest f) s.budget [] s rest fs h in
+    many_from-sound (function_at globals) function_cost (FitsAfter m globals) (is_at 0 fixed.Void) (item m globals) (λ found s rest f. function-is m globals (names_of found) s rest f) s.budget [] s rest fs h in
     let e : i.more ≡ fs = sym i.joined in
     subst (λ gs. Takes s (functions_written m globals [] gs) (total function_cost gs) rest × AllFunctionsFit m globals [] gs) e (i.takes, i.fit)
 
@@ -169,6 +170,6 @@ unfolding functions many
 functions-gives m globals fs rest distinct fit ends =
     let at_first = subst AreDistinct (sym (append-nil globals)) distinct in
     let i = many_from-complete (function_at globals) function_cost (FitsAmong m globals) (is_at 0 fixed.Void) (item m globals)
-        (λ found f rest p. function-gives m globals (names_of found) p.0 f rest p.1) (λ found f ws _. function-begins globals found f ws) (λ f. omega arith)
-        fs (total function_cost fs + rest.budget) [] rest (all_among m globals [] fs at_first fit) (omega arith) ends in
+    (λ found f rest p. function-gives m globals (names_of found) p.0 f rest p.1) (λ found f ws _. function-begins globals found f ws) (λ f. omega arith)
+    fs (total function_cost fs + rest.budget) [] rest (all_among m globals [] fs at_first fit) (omega arith) ends in
     rw (← written_among m globals [] fs) i

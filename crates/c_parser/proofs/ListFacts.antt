@@ -1,7 +1,6 @@
 -- Where names stand in a list of names.
-use Rattle.std.proofs.Common.{◌≡◌, ◌≢◌, ℕ, zero, suc, ◌+◌, ◌-◌, ◌<◌, ◌≤◌, Bool, true, false, not, cond, ◌||◌, List, [], ◌∷◌, ◌++◌, length, get_or, map, Option, Some, None, position, slice_get, ltb, refl, sym, ap, ◌∙◌, subst, if◌then◌else◌, rules, arith}
-use Rattle.std.specs.List.{list_any, position_or_len, prefix_len}
-use Rattle.std.specs.Prelude.{nat_lt}
+use Rattle.std.proofs.Common.{◌≡◌, ◌+◌, Bool, false, not, cond, ◌||◌, List, [], ◌∷◌, ◌++◌, map, position, refl, sym, ap, ◌∙◌, if◌then◌else◌}
+use Rattle.std.specs.List.{list_any, prefix_len}
 use Rattle.std.proofs.lemmas.List.{length-map, map-append}
 
 pub list_any-map : {X Y : Type 0} (p : X → Bool) (f : Y → X) (ys : List Y) → list_any p (map f ys) ≡ list_any (λ y. p (f y)) ys

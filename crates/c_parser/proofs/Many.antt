@@ -1,10 +1,10 @@
 -- Many items, one after another.
-use Rattle.std.proofs.Common.{◌≡◌, ℕ, zero, suc, ◌+◌, ◌-◌, ◌<◌, ◌≤◌, Bool, true, false, cond, if◌then◌else◌, List, [], ◌∷◌, ◌++◌, length, Option, Some, None, refl, sym, ap, subst, ◌∙◌, ◌⊎◌, inl, inr, ⊎_elim, append_assoc, append-nil, arith}
+use Rattle.std.proofs.Common.{◌≡◌, ℕ, zero, suc, ◌+◌, ◌<◌, ◌≤◌, Bool, true, false, cond, if◌then◌else◌, List, [], ◌∷◌, ◌++◌, Some, None, refl, sym, ap, subst, ◌∙◌, ⊎_elim, append_assoc, append-nil, arith}
 use Rattle.std.specs.Prelude.{sum_by}
 use Rattle.std.proofs.lemmas.List.Sums.{sum_by-cons}
 use Rattle.c_parser.specs.Spelling.{Word}
 use Rattle.c_parser.specs.Reading.{Left, Outcome, Parser, and_then, many_from, many}
-use Rattle.c_parser.proofs.Taking.{Takes, Takes-none, ◌then◌, before, Bound, bind_ok, gives_bind, same_pair, chosen}
+use Rattle.c_parser.proofs.Taking.{Takes, Takes-none, ◌then◌, before, bind_ok, gives_bind, same_pair, chosen}
 
 -- ---- a loop that reads items: what the whole gives is what the items that are left give after those that were found
 module _ {A : Type 0} (starts : List Word → Bool) (item : List A → Parser A) where
@@ -95,7 +95,7 @@ module _ {A : Type 0} (written : List A → A → List Word) (cost : A → ℕ) 
           by_test false e = none_more found s rest all e
       many_from-sound (suc n) found s rest all h =
           ⊎_elim (λ q. one_more (many_from starts item n) (many_from-sound n) found s rest all q.1) (λ q. none_more found s rest all q.1)
-              (chosen (starts s.words) (and_then (item found s) (λ x. many_from starts item n (found ++ x ∷ []))) (Some (found, s)) _ h)
+          (chosen (starts s.words) (and_then (item found s) (λ x. many_from starts item n (found ++ x ∷ []))) (Some (found, s)) _ h)
 
     module _ (complete : (found : List A) (x : A) (rest : Left) → Fits found x → item found (before (written found x) (cost x) rest) ≡ Some (x, rest))
         (begins : (found : List A) (x : A) (ws : List Word) → Fits found x → starts (written found x ++ ws) ≡ true) (some : (x : A) → 1 ≤ cost x) where

@@ -1,9 +1,9 @@
 -- A name stands for the variable or the function whose name it is.
-use Rattle.std.proofs.Common.{◌≡◌, ◌≢◌, ℕ, zero, suc, ◌+◌, ◌-◌, ◌<◌, ◌≤◌, Bool, true, false, not, cond, if◌then◌else◌, List, [], ◌∷◌, ◌++◌, length, get_or, Option, Some, None, position, slice_get, unwrap_or, option_and_then, refl, sym, ap, subst, ◌∙◌, ◌⊎◌, inl, inr, ⊎_elim, length-append, arith}
+use Rattle.std.proofs.Common.{◌≡◌, ◌≢◌, ℕ, zero, suc, ◌+◌, ◌-◌, ◌<◌, Bool, true, false, not, cond, if◌then◌else◌, List, [], ◌∷◌, ◌++◌, length, get_or, Some, None, position, option_and_then, refl, sym, ap, subst, ◌∙◌, length-append, arith}
 use Rattle.std.specs.Prelude.{nat_lt, AllPairs}
-use Rattle.std.specs.List.{prefix_len, position_or_len}
+use Rattle.std.specs.List.{prefix_len}
 use Rattle.std.specs.Str.{bytes_eq}
-use Rattle.std.proofs.lemmas.Bool.{lt-ltb, le-ltb, ltb-true, ltb-false, cases_order, not-true, true≢false}
+use Rattle.std.proofs.lemmas.Bool.{lt-ltb, le-ltb, ltb-true, ltb-false}
 use Rattle.std.proofs.lemmas.List.{get_or_append_left, get_or-append-add}
 use Rattle.std.proofs.lemmas.List.Quantifiers.{position-Some}
 use Rattle.std.proofs.lemmas.Option.{unwrap_or-slice_get, option_and_then_some, cond_some}
@@ -38,7 +38,7 @@ position-at names i distinct below =
     let same = name_at-get_or names i in
     let hit : not (bytes_eq (get_or names i []) (get_or names i [])) ≡ false = ap not ((bytes_eq-Decides (get_or names i []) (get_or names i [])).1 refl) in
     let n : prefix_len (λ y. not (bytes_eq (get_or names i []) y)) names ≡ i =
-      prefix_len-at (λ y. not (bytes_eq (get_or names i []) y)) [] names i below (λ k h. unlike _ _ (λ e. distinct k i [] h below (sym e))) hit in
+    prefix_len-at (λ y. not (bytes_eq (get_or names i []) y)) [] names i below (λ k h. unlike _ _ (λ e. distinct k i [] h below (sym e))) hit in
     let lt = lt-ltb i (length names) below in
     rw (same, n, lt) refl
 
@@ -81,7 +81,7 @@ module _ (globals functions : List (List ℕ)) where
     unfolding variable_of
     variable_of-at i below =
         let found : position (bytes_eq (name_at globals i)) (globals ++ functions) ≡ Some i =
-          ap (λ x. position (bytes_eq x) (globals ++ functions)) (sym (name_at-variable i below)) ∙ position-at (globals ++ functions) i distinct (omega (arith, length-append globals functions)) in
+        ap (λ x. position (bytes_eq x) (globals ++ functions)) (sym (name_at-variable i below)) ∙ position-at (globals ++ functions) i distinct (omega (arith, length-append globals functions)) in
         let test = lt-ltb i (length globals) below in
         ap (λ o. option_and_then (λ k. if nat_lt k (length globals) then Some k else None) o) found ∙ ap (λ b. if b then Some i else None) test
 
@@ -90,7 +90,7 @@ module _ (globals functions : List (List ℕ)) where
     function_of-at f below =
         let place = length globals + f in
         let found : position (bytes_eq (name_at functions f)) (globals ++ functions) ≡ Some place =
-          ap (λ x. position (bytes_eq x) (globals ++ functions)) (sym (name_at-function f)) ∙ position-at (globals ++ functions) place distinct (omega (arith, length-append globals functions)) in
+        ap (λ x. position (bytes_eq x) (globals ++ functions)) (sym (name_at-function f)) ∙ position-at (globals ++ functions) place distinct (omega (arith, length-append globals functions)) in
         let test = le-ltb place (length globals) (omega arith) in
         let back : place - length globals ≡ f = omega arith in
         ap (λ o. option_and_then (λ k. if nat_lt k (length globals) then None else Some (k - length globals)) o) found ∙ ap (λ b. if b then None else Some (place - length globals)) test ∙ ap Some back

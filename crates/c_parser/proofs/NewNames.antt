@@ -1,17 +1,16 @@
 -- Names that are new one after another are distinct, and the other way round.
-use Rattle.std.proofs.Common.{◌≡◌, ◌≢◌, ℕ, zero, suc, ◌+◌, ◌-◌, ◌<◌, ◌≤◌, Bool, true, false, not, ◌&&◌, ◌||◌, cond, List, [], ◌∷◌, ◌++◌, length, get_or, Option, Some, None, refl, sym, ap, subst, ◌∙◌, ◌⊎◌, inl, inr, ⊎_elim, append_assoc, append-nil, length-append, arith}
-use Rattle.std.specs.Prelude.{AllPairs}
+use Rattle.std.proofs.Common.{◌≡◌, ◌≢◌, ℕ, zero, suc, ◌<◌, Bool, true, false, not, ◌&&◌, ◌||◌, List, [], ◌∷◌, ◌++◌, length, get_or, Some, refl, sym, subst, ◌∙◌, append_assoc, append-nil, length-append, arith}
 use Rattle.std.specs.List.{AllByRecursion, list_any}
 use Rattle.std.specs.Str.{bytes_eq}
-use Rattle.std.proofs.lemmas.Bool.{and_parts, cases_lt, cases_order, not-true}
+use Rattle.std.proofs.lemmas.Bool.{and_parts, not-true}
 use Rattle.std.proofs.lemmas.List.{get_or_append_left, get_or_at}
 use Rattle.std.proofs.lemmas.List.Folds.{list_any_none}
 use Rattle.std.proofs.lemmas.List.Quantifiers.{all_pairs_push}
 use Rattle.std.proofs.lemmas.Slice.Eq.{bytes_eq-Decides}
 use Rattle.c_parser.specs.Spelling.{named}
 use Rattle.c_parser.specs.FirstForm.{is_free_name}
-use Rattle.c_parser.specs.Reading.{Left, Outcome, guard, name, take_word, new_name}
-use Rattle.c_parser.proofs.Taking.{Takes, Bound, bind_ok, same_pair, guard-passes, name-takes}
+use Rattle.c_parser.specs.Reading.{Left, guard, name, new_name}
+use Rattle.c_parser.proofs.Taking.{Takes, bind_ok, same_pair, guard-passes, name-takes}
 use Rattle.c_parser.proofs.NameLaws.{AreDistinct}
 
 -- a name that may be declared after these
@@ -75,8 +74,8 @@ pub IsNew-from_distinct : (found : List (List ℕ)) (x : List ℕ) (xs : List (L
 IsNew-from_distinct found x xs distinct free = record {
   free = free;
   absent = absent-from x found (λ k d below e.
-    distinct k (length found) d below (omega (arith, length-append found (x ∷ xs)))
-        (get_or_append_left found (x ∷ xs) d k below ∙ e ∙ sym (get_or_at found x xs d (length found) refl)));
+      distinct k (length found) d below (omega (arith, length-append found (x ∷ xs)))
+      (get_or_append_left found (x ∷ xs) d k below ∙ e ∙ sym (get_or_at found x xs d (length found) refl)));
 }
 
 pub AllNew-from_distinct : (found xs : List (List ℕ)) → AreDistinct (found ++ xs) → AllByRecursion (λ x. is_free_name x ≡ true) xs → AllNew found xs

@@ -1,5 +1,5 @@
 -- What the bytes of a decimal constant write.
-use Rattle.std.proofs.Common.{◌≡◌, ◌≢◌, ℕ, ◌+◌, ◌-◌, ◌<◌, ◌≤◌, ◌^◌, ◌==◌, Bool, true, false, ◌&&◌, not, cond, List, [], ◌∷◌, ◌++◌, length, get_or, Option, Some, None, Result, Ok, Err, pos, ℤ, w32, refl, sym, ap, ◌∙◌, subst, ⊎_elim, rules, arith}
+use Rattle.std.proofs.Common.{◌≡◌, ℕ, ◌<◌, ◌≤◌, ◌^◌, Bool, true, false, ◌&&◌, cond, List, [], ◌∷◌, length, get_or, Option, Some, None, Result, Ok, Err, pos, ℤ, w32, refl, sym, ap, ◌∙◌, subst, ⊎_elim, arith}
 use mir.Syntax.{w128}
 use mir.Val.{to_z, of_z}
 use Rattle.std.proofs.lemmas.Int.{ints}
@@ -8,12 +8,11 @@ use Rattle.std.specs.Prelude.{nat_le}
 use Rattle.std.specs.List.{list_all}
 use Rattle.std.specs.Str.{IsAscii, bytes_eq}
 use Rattle.std.specs.Str.Parse.{AllDigits, digits_value, ParsesSigned}
-use Rattle.std.specs.Fmt.{decimal, signed_decimal}
+use Rattle.std.specs.Fmt.{decimal}
 use Rattle.std.specs.Int.{IsInRange}
 use Rattle.std.proofs.lemmas.Bool.{and_parts, le-leb, lt-leb, leb-true, cases_lt}
 use Rattle.std.proofs.lemmas.Bool.Decides.{nat_tests}
 use Rattle.std.proofs.lemmas.Slice.Eq.{bytes_eq-Decides}
-use Rattle.std.proofs.lemmas.Str.Ascii.{IsAscii-nil, IsAscii-cons}
 use Rattle.std.proofs.lemmas.Str.Parse.{IsNumeralModel, numerals_by_value, tells_digits, parse_signed_digits}
 use Rattle.std.proofs.lemmas.Fmt.{IsAscii-from_digits, decimal-digits_value, digits_value-decimal}
 use Rattle.c_lexer.specs.Bytes.{is_digit, is_between}
@@ -75,6 +74,7 @@ number_of-some bytes n h = by_test (nat_le v 2147483647 && bytes_eq bytes (decim
   where
     v : ℕ
     v = digits_value 10 bytes
+
     by_test : (b : Bool) → (nat_le (digits_value 10 bytes) 2147483647 && bytes_eq bytes (decimal (digits_value 10 bytes))) ≡ b → cond b (Some (pos (digits_value 10 bytes))) None ≡ Some n
         → (m : ℕ) × (n ≡ pos m) × (m ≤ 2147483647) × (bytes ≡ decimal m)
     by_test true e h =

@@ -1,31 +1,24 @@
--- A text's words are read as a program exactly where the program is of the form and spells them.
-use Rattle.std.proofs.Common.{◌≡◌, ◌≢◌, ℕ, zero, suc, ◌+◌, ◌-◌, ◌<◌, ◌≤◌, Bool, true, false, not, ◌&&◌, List, [], ◌∷◌, ◌++◌, length, map, Option, Some, None, refl, sym, ap, subst, ◌∙◌, ◌⊎◌, inl, inr, ⊎_elim, append_assoc, append-nil, length-append, arith}
-use Rattle.std.specs.Prelude.{codes, sum_by}
-use Rattle.std.specs.List.{AllByRecursion, flat_map, list_any}
-use Rattle.std.proofs.lemmas.Bool.{and_parts, not-true, eqb-true}
-use Rattle.std.proofs.lemmas.List.{map-append, length-map, nil_from_length}
-use Rattle.std.proofs.lemmas.List.Sums.{sum_by-append}
-use Rattle.c_lexer.specs.declared.token.Token.{Token}
-use Rattle.c_lexer.specs.FirstTokens.{is_token}
-use Rattle.c_lexer.specs.declared.token.TokenKind.TheVariants as kind
+-- What functions write under the names of all functions, and the property, both ways.
+use Rattle.std.proofs.Common.{◌≡◌, ℕ, ◌+◌, ◌<◌, true, false, not, ◌&&◌, List, [], ◌∷◌, ◌++◌, length, map, Option, Some, None, refl, sym, ap, subst, ◌∙◌, ⊎_elim, append_assoc, append-nil, arith}
+use Rattle.std.specs.Prelude.{codes}
+use Rattle.std.specs.List.{AllByRecursion, flat_map}
+use Rattle.std.proofs.lemmas.Bool.{and_parts}
+use Rattle.std.proofs.lemmas.List.{map-append}
 use Rattle.c_parser.specs.declared.fixed.Fixed.{Fixed}
 use Rattle.c_parser.specs.declared.fixed.Fixed.TheVariants as fixed
 use Rattle.c_parser.specs.declared.tree.Mode.{Mode}
 use Rattle.c_parser.specs.declared.tree.Mode.TheVariants as mode
 use Rattle.c_parser.specs.declared.tree.FirstStmt.{FirstStmt}
 use Rattle.c_parser.specs.declared.tree.FirstStmt.TheVariants as stmt
-use Rattle.c_parser.specs.Program.{Function, Property, Program}
-use Rattle.c_parser.specs.Spelling.{Word, words_of, names_of, name_at, statement_words, declaration_words, function_words, main_words, functions_words, property_words, optional_property_words, program_words, named, keyword, mark, number as number_word}
-use Rattle.c_parser.specs.FirstForm.{StatementFits, BodiesFit, PropertyFits, IsFirstForm, Spells, size, limit, is_free_name, is_name}
+use Rattle.c_parser.specs.Program.{Function, Property}
+use Rattle.c_parser.specs.Spelling.{Word, names_of, name_at, statement_words, function_words, main_words, functions_words, property_words, optional_property_words, named, keyword, mark}
+use Rattle.c_parser.specs.FirstForm.{StatementFits, PropertyFits, is_name}
 use Rattle.c_parser.specs.FixedWords.{is_fixed, fixed_word}
-use Rattle.c_parser.specs.Reading.{Left, Outcome, Parser, and_then, guard, take_word, is_at, expect, expect_all, name, variable, variable_of, is_woven, property_middle, property_head, property, optional_property, begins_declaration, declarations, functions, main_function, finish, all_functions, program, whole}
-use Rattle.c_parser.proofs.Taking.{Takes, Takes-none, Takes-begins, ◌then◌, before, Bound, bind_ok, gives_bind, same_pair, chosen, guard-passes, expect-takes, expect_all-takes, name-takes}
+use Rattle.c_parser.specs.Reading.{Left, Outcome, and_then, guard, take_word, is_at, expect, expect_all, name, variable, variable_of, is_woven, property_middle, property_head, property, optional_property}
+use Rattle.c_parser.proofs.Taking.{Takes, Takes-none, ◌then◌, before, bind_ok, gives_bind, same_pair, chosen, guard-passes, expect_all-takes, name-takes}
 use Rattle.c_parser.proofs.NameLaws.{AreDistinct, variable_of-at, name_at-variable}
-use Rattle.c_parser.proofs.NewNames.{IsNew, AllNew, AllNew-distinct, AllNew-from_distinct, AreDistinct-front}
-use Rattle.c_parser.proofs.Many.{total, total-sum_by}
 use Rattle.c_parser.proofs.StatementLaws.{variable-is}
-use Rattle.c_parser.proofs.BodyLaws.{taken_as, declarations-is, declarations-gives}
-use Rattle.c_parser.proofs.FunctionLaws.{FunctionFits, function_cost, AllFunctionsFit, functions_written, functions-is, functions-gives, main_function-is, main_function-gives}
+use Rattle.c_parser.proofs.FunctionLaws.{FunctionFits, AllFunctionsFit, functions_written}
 
 -- ---- names of later functions change nothing
 module _ (m : Mode) (globals earlier later : List (List ℕ)) where
@@ -56,8 +49,8 @@ functions_words-written m globals found (f ∷ fs) main names e fit =
     let all : names_of (found ++ f ∷ [] ++ fs ++ main ∷ []) ≡ names = ap (λ gs. names_of (gs ++ main ∷ [])) (append_assoc found (f ∷ []) fs) ∙ e in
     let rest = functions_words-written m globals (found ++ f ∷ []) fs main names all fit.1 in
     let own : function_words globals (names_of found) f ≡ function_words globals names f =
-      ap (λ ws. keyword (codes "void") ∷ named f.name ∷ mark (codes "(") ∷ keyword (codes "void") ∷ mark (codes ")") ∷ mark (codes "{") ∷ (ws ++ mark (codes "}") ∷ []))
-          (body_words-more m globals (names_of found) later f.body first.body ∙ ap (λ n. flat_map (statement_words globals n) f.body) split) in
+    ap (λ ws. keyword (codes "void") ∷ named f.name ∷ mark (codes "(") ∷ keyword (codes "void") ∷ mark (codes ")") ∷ mark (codes "{") ∷ (ws ++ mark (codes "}") ∷ []))
+    (body_words-more m globals (names_of found) later f.body first.body ∙ ap (λ n. flat_map (statement_words globals n) f.body) split) in
     functions_words-cons globals names f main fs ∙ ap (λ ws. ws ++ functions_words globals names (fs ++ main ∷ [])) (sym own)
     ∙ ap (λ ws. function_words globals (names_of found) f ++ ws) rest
     ∙ sym (append_assoc (function_words globals (names_of found) f) (functions_written m globals (found ++ f ∷ []) fs) (main_words globals names main))
@@ -100,9 +93,11 @@ module _ (globals : List (List ℕ)) where
       let head = property_head-is s x.mid x.value x.first in
       let at = variable-is globals [] x.mid i.mid i.value (ap (λ names. variable (length globals) names x.mid) (append-nil globals) ∙ i.first) in
       let made : Property = record { name = x.value; variable = i.value } in
-      let takes : Takes s (property_words globals made) 0 c.mid = head.0 then at.0 then expect_all-takes closing i.mid c.mid c.value c.first in
-      (subst (λ q. Takes s (property_words globals q) 0 rest) e.0 (subst (λ r. Takes s (property_words globals made) 0 r) e.1 takes),
-        subst (λ q. is_name q.name ≡ true) e.0 head.1, subst (λ q. q.variable < length globals) e.0 at.1)
+      let takes : Takes s (property_words globals made) 0 c.mid = head.0 then at.0 then expect_all-takes closing i.mid c.mid c.value c.first in (
+        subst (λ q. Takes s (property_words globals q) 0 rest) e.0 (subst (λ r. Takes s (property_words globals made) 0 r) e.1 takes),
+        subst (λ q. is_name q.name ≡ true) e.0 head.1,
+        subst (λ q. q.variable < length globals) e.0 at.1,
+      )
 
   source_mode : (m : Mode) → not (is_woven m) ≡ true → m ≡ mode.Source
   source_mode mode.Source h = refl
@@ -125,6 +120,7 @@ module _ (globals : List (List ℕ)) where
           let p = bind_ok (property (length globals) globals s) (λ p r. Some (Some p, r)) o rest q.1 in
           let i = property-is s p.mid p.value p.first in
           property_taken m s (Some p.value) o p.mid rest p.second (record { takes = i.0; fits = (source, i.1, i.2) })
+
       none : ((not (is_woven m) && is_at 0 fixed.Open s.words) ≡ false) × (◌≡◌ {A = Outcome (Option Property)} (Some (None, s)) (Some (o, rest))) → PropertyTaken m s o rest
       none q = property_taken m s None o s rest q.1 (record { takes = Takes-none s; fits = tt })
 
@@ -133,7 +129,7 @@ module _ (globals : List (List ℕ)) where
   unfolding property property_head property_middle variable name expect_all expect take_word is_fixed
   property-gives distinct p ws n is below =
       let at : variable_of (length globals) globals (name_at globals p.variable) ≡ Some p.variable =
-        ap (λ names. variable_of (length globals) names (name_at globals p.variable)) (sym (append-nil globals)) ∙ variable_of-at globals [] (subst AreDistinct (sym (append-nil globals)) distinct) p.variable below in
+      ap (λ names. variable_of (length globals) names (name_at globals p.variable)) (sym (append-nil globals)) ∙ variable_of-at globals [] (subst AreDistinct (sym (append-nil globals)) distinct) p.variable below in
       rw (is, at) refl
 
   pub optional_property-gives : (m : Mode) → AreDistinct globals → (o : Option Property) (rest : Left) → PropertyFits m (length globals) o → is_at 0 fixed.Open rest.words ≡ false

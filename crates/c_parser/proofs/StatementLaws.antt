@@ -1,22 +1,16 @@
 -- A statement is read exactly where it is spelled and fits.
-use Rattle.std.proofs.Common.{◌≡◌, ◌≢◌, ℕ, zero, suc, ◌+◌, ◌-◌, ◌<◌, ◌≤◌, Bool, true, false, not, ◌||◌, cond, if◌then◌else◌, List, [], ◌∷◌, ◌++◌, length, Option, Some, None, refl, sym, ap, subst, ◌∙◌, ◌⊎◌, inl, inr, ⊎_elim, ℤ, pos, negsuc, ◌≤ℤ◌, arith}
-use Rattle.std.specs.Prelude.{codes}
-use Rattle.std.specs.List.{AllByRecursion, flat_map}
-use Rattle.std.specs.Fmt.{signed_decimal, decimal}
+use Rattle.std.proofs.Common.{◌≡◌, ℕ, ◌<◌, true, ◌||◌, if◌then◌else◌, List, [], ◌∷◌, ◌++◌, length, Some, refl, sym, subst, ⊎_elim, ℤ, pos, ◌≤ℤ◌, arith}
 use Rattle.std.proofs.lemmas.Int.{ints}
 use Rattle.c_parser.specs.declared.fixed.Fixed.TheVariants as fixed
 use Rattle.c_parser.specs.declared.tree.Mode.{Mode}
 use Rattle.c_parser.specs.declared.tree.Mode.TheVariants as mode
 use Rattle.c_parser.specs.declared.tree.FirstStmt.{FirstStmt}
 use Rattle.c_parser.specs.declared.tree.FirstStmt.TheVariants as stmt
-use Rattle.c_parser.specs.Spelling.{Word, name_at, statement_words, named, mark, number as number_word}
+use Rattle.c_parser.specs.Spelling.{name_at, statement_words, named}
 use Rattle.c_parser.specs.FirstForm.{StatementFits}
-use Rattle.c_parser.specs.FixedWords.{is_fixed}
-use Rattle.c_parser.specs.Reading.{Left, Outcome, Parser, and_then, guard, known, take_word, is_at, expect, expect_all, name, number, number_of, spend, variable_of, function_of_name, variable, assignment, call, named_statement, assertion, empty_statement, woven_statement, statement, next_statement, is_woven, many_from, many, body, body_goes_on}
-use Rattle.c_parser.proofs.Taking.{Takes, Takes-none, ◌then◌, before, Bound, bind_ok, gives_bind, same_pair, chosen, guard-passes, known-gives, expect-takes, expect_all-takes, name-takes, number-takes, IsSmall, spend-takes, spend-gives}
-use Rattle.c_parser.proofs.NumberFacts.{number_of-decimal}
-use Rattle.c_parser.proofs.NameLaws.{AreDistinct, variable_of-is, function_of-is, variable_of-at, function_of-at}
-use Rattle.c_parser.proofs.Many.{total, all_written, AllFit, More, many_from-sound, many_from-complete}
+use Rattle.c_parser.specs.Reading.{Left, Outcome, guard, known, is_at, expect, expect_all, name, number, spend, variable_of, function_of_name, variable, assignment, call, named_statement, assertion, empty_statement, woven_statement, statement, next_statement, is_woven}
+use Rattle.c_parser.proofs.Taking.{Takes, ◌then◌, bind_ok, same_pair, chosen, guard-passes, known-gives, expect-takes, expect_all-takes, name-takes, number-takes, IsSmall, spend-takes}
+use Rattle.c_parser.proofs.NameLaws.{variable_of-is, function_of-is}
 
 module _ (globals functions : List (List ℕ)) where
   -- a statement that was taken
@@ -74,7 +68,7 @@ module _ (globals functions : List (List ℕ)) where
       let x = bind_ok (name s) _ a rest h in
       let first = name-takes s x.mid x.value x.first in
       ⊎_elim (λ q. assignment-is m x.value s x.mid rest a first q.1) (λ q. call-is m x.value s x.mid rest a first q.1)
-          (chosen (is_at 0 fixed.Equals x.mid.words) (assignment (length globals) (globals ++ functions) x.value x.mid) (call (length globals) (globals ++ functions) x.value x.mid) _ x.second)
+      (chosen (is_at 0 fixed.Equals x.mid.words) (assignment (length globals) (globals ++ functions) x.value x.mid) (call (length globals) (globals ++ functions) x.value x.mid) _ x.second)
 
   assertion-is : (s rest : Left) (a : FirstStmt) → assertion (length globals) (globals ++ functions) s ≡ Some (a, rest) → Stated mode.Woven s a rest
   unfolding assertion
@@ -110,15 +104,15 @@ module _ (globals functions : List (List ℕ)) where
       let g = bind_ok (guard (is_woven m) s) _ a rest h in
       let p = guard-passes (is_woven m) s g.mid g.value g.first in
       let from_here : Stated mode.Woven g.mid a rest =
-        ⊎_elim (λ q. empty_statement-is g.mid rest a q.1) (λ q. assertion-is g.mid rest a q.1)
-            (chosen (is_at 0 fixed.Semicolon g.mid.words) (empty_statement g.mid) (assertion (length globals) (globals ++ functions) g.mid) _ g.second) in
+      ⊎_elim (λ q. empty_statement-is g.mid rest a q.1) (λ q. assertion-is g.mid rest a q.1)
+      (chosen (is_at 0 fixed.Semicolon g.mid.words) (empty_statement g.mid) (assertion (length globals) (globals ++ functions) g.mid) _ g.second) in
       subst (λ k. Stated k s a rest) (woven_mode m p.0) (subst (λ r. Stated mode.Woven r a rest) (sym p.1) from_here)
 
   pub statement-is : (m : Mode) (s rest : Left) (a : FirstStmt) → statement m (length globals) (globals ++ functions) s ≡ Some (a, rest) → Stated m s a rest
   unfolding statement
   statement-is m s rest a h =
       ⊎_elim (λ q. woven_statement-is m s rest a q.1) (λ q. named_statement-is m s rest a q.1)
-          (chosen (is_at 0 fixed.Semicolon s.words || is_at 0 fixed.Open s.words) (woven_statement m (length globals) (globals ++ functions) s) (named_statement (length globals) (globals ++ functions) s) _ h)
+      (chosen (is_at 0 fixed.Semicolon s.words || is_at 0 fixed.Open s.words) (woven_statement m (length globals) (globals ++ functions) s) (named_statement (length globals) (globals ++ functions) s) _ h)
 
   pub next_statement-is : (m : Mode) (found : List FirstStmt) (s rest : Left) (a : FirstStmt) → next_statement m (length globals) (globals ++ functions) found s ≡ Some (a, rest)
       → Takes s (statement_words globals functions a) 1 rest × StatementFits m (length globals) (length functions) a

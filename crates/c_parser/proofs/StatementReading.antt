@@ -1,18 +1,15 @@
 -- A statement that is spelled and fits is read, whatever follows it.
-use Rattle.std.proofs.Common.{◌≡◌, ◌≢◌, ℕ, zero, suc, ◌+◌, ◌-◌, ◌<◌, ◌≤◌, Bool, true, false, not, ◌||◌, cond, if◌then◌else◌, List, [], ◌∷◌, ◌++◌, length, Option, Some, None, refl, sym, ap, subst, ◌∙◌, ◌⊎◌, inl, inr, ⊎_elim, ℤ, pos, negsuc, ◌≤ℤ◌, arith}
-use Rattle.std.specs.Prelude.{codes}
-use Rattle.std.specs.List.{AllByRecursion, flat_map}
-use Rattle.std.specs.Fmt.{signed_decimal, decimal}
+use Rattle.std.proofs.Common.{◌≡◌, ℕ, true, List, ◌++◌, length, Some, refl, ℤ, pos, negsuc, ◌≤ℤ◌, arith}
+use Rattle.std.specs.Fmt.{signed_decimal}
 use Rattle.std.proofs.lemmas.Int.{ints}
-use Rattle.c_parser.specs.declared.fixed.Fixed.TheVariants as fixed
 use Rattle.c_parser.specs.declared.tree.Mode.{Mode}
 use Rattle.c_parser.specs.declared.tree.Mode.TheVariants as mode
 use Rattle.c_parser.specs.declared.tree.FirstStmt.{FirstStmt}
 use Rattle.c_parser.specs.declared.tree.FirstStmt.TheVariants as stmt
-use Rattle.c_parser.specs.Spelling.{Word, name_at, statement_words, named, mark, number as number_word}
+use Rattle.c_parser.specs.Spelling.{Word, statement_words}
 use Rattle.c_parser.specs.FirstForm.{StatementFits}
 use Rattle.c_parser.specs.FixedWords.{is_fixed}
-use Rattle.c_parser.specs.Reading.{Left, Outcome, Parser, and_then, guard, known, take_word, is_at, expect, expect_all, name, number, number_of, spend, variable_of, function_of_name, variable, assignment, call, named_statement, assertion, empty_statement, woven_statement, statement, next_statement, is_woven, many_from, many, body, body_goes_on}
+use Rattle.c_parser.specs.Reading.{Left, take_word, is_at, expect, expect_all, name, number, number_of, variable, assignment, call, named_statement, assertion, empty_statement, woven_statement, statement, next_statement, body_goes_on}
 use Rattle.c_parser.proofs.Taking.{before, gives_bind, spend-gives}
 use Rattle.c_parser.proofs.NumberFacts.{number_of-decimal}
 use Rattle.c_parser.proofs.NameLaws.{AreDistinct, variable_of-at, function_of-at}

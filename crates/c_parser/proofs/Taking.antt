@@ -1,5 +1,5 @@
 -- How what a parser takes is made of what its parts take, and the steps of a parser.
-use Rattle.std.proofs.Common.{◌≡◌, ℕ, suc, ◌+◌, ◌-◌, ◌<◌, ◌≤◌, ◌==◌, Bool, true, false, ◌&&◌, ◌||◌, cond, if◌then◌else◌, List, [], ◌∷◌, ◌++◌, length, map, get_or, Option, Some, None, refl, sym, ap, subst, ◌∙◌, ◌⊎◌, inl, inr, ⊎_elim, append_assoc, append-nil, ℤ, pos, arith}
+use Rattle.std.proofs.Common.{◌≡◌, ℕ, ◌+◌, ◌-◌, ◌<◌, ◌≤◌, ◌==◌, Bool, true, false, cond, if◌then◌else◌, List, [], ◌∷◌, ◌++◌, map, get_or, Option, Some, None, refl, sym, ap, subst, ◌∙◌, ◌⊎◌, inl, inr, append_assoc, ℤ, pos, arith}
 use Rattle.std.specs.Fmt.{signed_decimal}
 use Rattle.c_parser.proofs.NumberFacts.{number_of-some}
 use Rattle.std.proofs.lemmas.Bool.{and_parts, eqb-true}
@@ -12,7 +12,7 @@ use Rattle.c_lexer.specs.declared.token.IntSuffix.TheVariants as suffix
 use Rattle.c_parser.specs.declared.fixed.Fixed.{Fixed}
 use Rattle.c_parser.specs.Spelling.{Word, named, number as number_word}
 use Rattle.c_parser.specs.FixedWords.{fixed_word, kind_number, same_kind, is_fixed, is_name_kind, is_plain_number}
-use Rattle.c_parser.specs.Reading.{Left, Outcome, Parser, and_then, guard, known, first_of, take_word, expect, expect_all, name, number, number_of, spend, finish}
+use Rattle.c_parser.specs.Reading.{Left, Outcome, Parser, and_then, guard, known, first_of, take_word, expect, expect_all, name, number, number_of, spend}
 
 -- these words stand first, this many declarations, functions and statements are counted, and the rest is left
 pub record Takes (s : Left) (ws : List Word) (cost : ℕ) (rest : Left) : Type 0 where
@@ -72,7 +72,7 @@ first_of-takes [] budget w rest h = cc
 first_of-takes (v ∷ ws) budget w rest h =
     let e = same_pair h in
     subst (λ x. Takes (record { words = v ∷ ws; budget = budget }) (x ∷ []) 0 rest) e.0
-        (subst (λ r. Takes (record { words = v ∷ ws; budget = budget }) (v ∷ []) 0 r) e.1 (record { words = refl; budget = omega arith }))
+    (subst (λ r. Takes (record { words = v ∷ ws; budget = budget }) (v ∷ []) 0 r) e.1 (record { words = refl; budget = omega arith }))
 
 pub take_word-takes : (s : Left) (w : Word) (rest : Left) → take_word s ≡ Some (w, rest) → Takes s (w ∷ []) 0 rest
 unfolding take_word

@@ -1,5 +1,5 @@
 -- A text's words are read as a program exactly where the program is of the form and spells them.
-use Rattle.std.proofs.Common.{◌≡◌, ◌≢◌, ℕ, zero, suc, ◌+◌, ◌-◌, ◌<◌, ◌≤◌, ◌==◌, Bool, true, false, not, ◌&&◌, cond, List, [], ◌∷◌, ◌++◌, length, map, Option, Some, None, Result, Ok, Err, refl, sym, ap, subst, ◌∙◌, append_assoc, append-nil, length-append, arith}
+use Rattle.std.proofs.Common.{◌≡◌, ℕ, ◌+◌, ◌-◌, ◌≤◌, ◌==◌, Bool, true, false, cond, List, [], ◌∷◌, ◌++◌, length, Option, Some, None, refl, sym, ap, subst, ◌∙◌, append_assoc, append-nil, length-append, arith}
 use Rattle.std.specs.Prelude.{codes, sum_by}
 use Rattle.std.specs.List.{AllByRecursion, flat_map}
 use Rattle.std.proofs.lemmas.Bool.{eqb-true}
@@ -7,20 +7,18 @@ use Rattle.std.proofs.lemmas.List.{map-append, length-map, nil_from_length}
 use Rattle.c_lexer.specs.declared.token.Token.{Token}
 use Rattle.c_parser.specs.declared.fixed.Fixed.TheVariants as fixed
 use Rattle.c_parser.specs.declared.tree.Mode.{Mode}
-use Rattle.c_parser.specs.declared.tree.Mode.TheVariants as mode
-use Rattle.c_parser.specs.declared.tree.FirstStmt.{FirstStmt}
 use Rattle.c_parser.specs.Program.{Function, Property, Program}
 use Rattle.c_parser.specs.Spelling.{Word, words_of, names_of, statement_words, declaration_words, main_words, functions_words, optional_property_words, program_words, named, keyword, mark, number as number_word}
 use Rattle.c_parser.specs.FirstForm.{StatementFits, BodiesFit, PropertyFits, IsFirstForm, Spells, size, limit, is_free_name}
 use Rattle.c_parser.specs.FixedWords.{is_fixed}
-use Rattle.c_parser.specs.Reading.{Left, Outcome, Parser, and_then, is_at, begins_declaration, declarations, optional_property, functions, main_function, finish, all_functions, program, whole}
-use Rattle.c_parser.proofs.Taking.{Takes, Takes-begins, ◌then◌, before, Bound, bind_ok, gives_bind, same_pair}
+use Rattle.c_parser.specs.Reading.{Left, Outcome, is_at, begins_declaration, declarations, optional_property, functions, main_function, finish, all_functions, program, whole}
+use Rattle.c_parser.proofs.Taking.{Takes, ◌then◌, before, bind_ok, gives_bind, same_pair}
 use Rattle.c_parser.proofs.NameLaws.{AreDistinct}
-use Rattle.c_parser.proofs.NewNames.{IsNew, AllNew, AllNew-distinct, AllNew-from_distinct, AreDistinct-front}
+use Rattle.c_parser.proofs.NewNames.{AllNew, AllNew-distinct, AllNew-from_distinct, AreDistinct-front}
 use Rattle.c_parser.proofs.Many.{total, total-sum_by}
 use Rattle.c_parser.proofs.BodyLaws.{taken_as, ends_at, declarations-is, declarations-gives}
 use Rattle.c_parser.proofs.FunctionLaws.{FunctionFits, function_cost, AllFunctionsFit, functions_written, names_of-push, functions-is, functions-gives, main_function-is, main_function-gives}
-use Rattle.c_parser.proofs.ProgramLaws.{body_words-more, functions_words-written, PropertyTaken, optional_property-is, optional_property-gives}
+use Rattle.c_parser.proofs.ProgramLaws.{body_words-more, functions_words-written, optional_property-is, optional_property-gives}
 
 -- ---- facts of each element of two lists
 all-append : {A : Type 0} (P : A → Type 0) (xs ys : List A) → AllByRecursion P xs → AllByRecursion P ys → AllByRecursion P (xs ++ ys)
@@ -81,16 +79,17 @@ main_fits m globals found [] main bodies =
 main_fits m globals found (f ∷ fs) main bodies =
     let one : length found + 1 ≡ length (found ++ f ∷ []) = sym (length-append found (f ∷ [])) in
     subst (λ gs. MainFits m globals gs main) (append_assoc found (f ∷ []) fs)
-        (main_fits m globals (found ++ f ∷ []) fs main (subst (λ k. BodiesFit m (length globals) k (fs ++ main ∷ [])) one bodies.1))
+    (main_fits m globals (found ++ f ∷ []) fs main (subst (λ k. BodiesFit m (length globals) k (fs ++ main ∷ [])) one bodies.1))
 
 functions_fit : (m : Mode) (globals : List (List ℕ)) (found fs : List Function) (main : Function) → BodiesFit m (length globals) (length found) (fs ++ main ∷ [])
     → AllNew (globals ++ names_of found) (names_of fs) → AllFunctionsFit m globals found fs
 functions_fit m globals found [] main bodies new = tt
 functions_fit m globals found (f ∷ fs) main bodies new =
-    let one : length found + 1 ≡ length (found ++ f ∷ []) = sym (length-append found (f ∷ [])) in
-    (record { new = new.0; body = subst (λ k. AllByRecursion (StatementFits m (length globals) k) f.body) (sym (length_names found)) bodies.0 },
+    let one : length found + 1 ≡ length (found ++ f ∷ []) = sym (length-append found (f ∷ [])) in (
+      record { new = new.0; body = subst (λ k. AllByRecursion (StatementFits m (length globals) k) f.body) (sym (length_names found)) bodies.0 },
       functions_fit m globals (found ++ f ∷ []) fs main (subst (λ k. BodiesFit m (length globals) k (fs ++ main ∷ [])) one bodies.1)
-          (subst (λ names. AllNew names (names_of fs)) (names_of-push globals found f) new.1))
+          (subst (λ names. AllNew names (names_of fs)) (names_of-push globals found f) new.1),
+    )
 
 -- ---- the end
 finish-is : (s rest : Left) (t : Unit {0}) → finish s ≡ Some (t, rest) → (s.words ≡ []) × (s ≡ rest)
@@ -108,7 +107,7 @@ main_words-all m globals others main fits =
     let names : names_of others ++ main.name ∷ [] ≡ names_of (others ++ main ∷ []) = sym (map-append (λ (f : Function). f.name) others (main ∷ [])) in
     let body = body_words-more m globals (names_of others) (main.name ∷ []) main.body fits ∙ ap (λ n. flat_map (statement_words globals n) main.body) names in
     ap (λ ws. keyword (codes "int") ∷ named main.name ∷ mark (codes "(") ∷ keyword (codes "void") ∷ mark (codes ")") ∷ mark (codes "{")
-        ∷ (ws ++ keyword (codes "return") ∷ number_word (codes "0") ∷ mark (codes ";") ∷ mark (codes "}") ∷ [])) body
+    ∷ (ws ++ keyword (codes "return") ∷ number_word (codes "0") ∷ mark (codes ";") ∷ mark (codes "}") ∷ [])) body
 
 all_written_words : (m : Mode) (globals : List (List ℕ)) (others : List Function) (main : Function) → AllFunctionsFit m globals [] others → MainFits m globals others main
     → functions_words globals (names_of (others ++ main ∷ [])) (others ++ main ∷ []) ≡ functions_written m globals [] others ++ main_words globals (names_of others) main
@@ -229,7 +228,7 @@ module _ (m : Mode) (globals : List (List ℕ)) (o : Option Property) (others : 
   unfolding all_functions
   all_functions-gives n distinct fit main_name main_fit =
       gives_bind _ (functions-gives m globals others (at_main n) (AreDistinct-front globals (names_of others) distinct) fit (main_is_no_void globals (names_of others) main []))
-          (gives_bind _ (main_function-gives m globals (names_of others) distinct main (at_end n) main_name main_fit) (gives_bind _ (finish-gives n) refl))
+      (gives_bind _ (main_function-gives m globals (names_of others) distinct main (at_end n) main_name main_fit) (gives_bind _ (finish-gives n) refl))
 
   abbrev made : Program
   made = record { globals = globals; property = o; functions = others ++ main ∷ [] }
@@ -240,8 +239,8 @@ module _ (m : Mode) (globals : List (List ℕ)) (o : Option Property) (others : 
   parts-give n distinct new property fit main_name main_fit =
       let rest = [] in
       gives_bind _ (declarations-gives globals (at_property n) new (no_declaration_at_property globals o (at_functions n).words (no_declaration m globals [] others (names_of others) main rest)))
-          (gives_bind _ (optional_property-gives globals m (AreDistinct-front globals (names_of others) distinct) o (at_functions n) property (begins_with_functions m globals [] others (names_of others) main rest))
-              (gives_bind _ (all_functions-gives n distinct fit main_name main_fit) refl))
+      (gives_bind _ (optional_property-gives globals m (AreDistinct-front globals (names_of others) distinct) o (at_functions n) property (begins_with_functions m globals [] others (names_of others) main rest))
+      (gives_bind _ (all_functions-gives n distinct fit main_name main_fit) refl))
 
   -- the whole text is what the parts write
   start-is : (n : ℕ) → limit m ≡ size made + n → AllFunctionsFit m globals [] others → MainFits m globals others main → whole m (program_words made) ≡ at_start n
@@ -249,7 +248,7 @@ module _ (m : Mode) (globals : List (List ℕ)) (o : Option Property) (others : 
       let own = all_written_words m globals others main fit main_fit in
       let ended : main_words globals (names_of others) main ++ [] ≡ main_words globals (names_of others) main = append-nil (main_words globals (names_of others) main) in
       let words : program_words made ≡ flat_map declaration_words globals ++ (optional_property_words globals o ++ (functions_written m globals [] others ++ (main_words globals (names_of others) main ++ []))) =
-        ap (λ ws. flat_map declaration_words globals ++ (optional_property_words globals o ++ ws)) (own ∙ ap (λ ws. functions_written m globals [] others ++ ws) (sym ended)) in
+      ap (λ ws. flat_map declaration_words globals ++ (optional_property_words globals o ++ ws)) (own ∙ ap (λ ws. functions_written m globals [] others ++ ws) (sym ended)) in
       let sizes = functions_size others main in
       let budget : limit m ≡ length globals + (0 + (total function_cost others + (function_cost main + n))) = omega arith in
       λ i. record { words = words i; budget = budget i }

@@ -1,10 +1,10 @@
 -- What stands at a place among a text's words.
-use Rattle.std.proofs.Common.{◌≡◌, ℕ, ◌+◌, ◌<◌, ◌≤◌, Bool, true, false, List, length, get_or, drop, map, Option, Some, None, slice_get, refl, sym, ap, ◌∙◌}
+use Rattle.std.proofs.Common.{◌≡◌, ℕ, ◌+◌, ◌<◌, ◌≤◌, false, List, length, get_or, drop, Some, None, slice_get, ap, ◌∙◌}
 use Rattle.std.specs.Option.{option_map, option_map_or}
 use Rattle.std.proofs.lemmas.Option.{slice_get-map}
 use Rattle.c_lexer.specs.declared.token.Token.{Token}
 use Rattle.c_parser.specs.declared.fixed.Fixed.{Fixed}
-use Rattle.c_parser.specs.Spelling.{Word, word_of, words_of}
+use Rattle.c_parser.specs.Spelling.{word_of, words_of}
 use Rattle.c_parser.specs.FixedWords.{is_fixed}
 use Rattle.std.proofs.lemmas.List.{at_drop_more, at_drop_all}
 use Rattle.c_parser.specs.Reading.{Left, and_then, is_at, expect, expect_all}

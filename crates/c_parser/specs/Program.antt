@@ -1,5 +1,5 @@
 -- A program of the first form as a value: a tree without where it lies in memory.
-use Rattle.std.specs.Prelude.{ℕ, List, Option, Some, None, map}
+use Rattle.std.specs.Prelude.{ℕ, List, Option, map}
 use Rattle.std.specs.String.{string_bytes}
 use Rattle.c_parser.specs.declared.tree.FirstStmt.{FirstStmt}
 use Rattle.c_parser.specs.declared.tree.FirstFunction.{FirstFunction}

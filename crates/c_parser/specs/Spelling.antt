@@ -1,5 +1,5 @@
 -- The words that a program of the first form writes. A word is a token without where it stands.
-use Rattle.std.specs.Prelude.{ℕ, ◌+◌, ◌-◌, List, [], ◌∷◌, ◌++◌, Option, Some, None, map, take, drop, slice_get, unwrap_or, codes}
+use Rattle.std.specs.Prelude.{ℕ, ◌-◌, List, [], ◌∷◌, ◌++◌, Option, Some, None, map, take, drop, slice_get, unwrap_or, codes}
 use Rattle.std.specs.List.{flat_map}
 use Rattle.std.specs.Fmt.{signed_decimal}
 use Rattle.c_lexer.specs.declared.token.TokenKind.{TokenKind}

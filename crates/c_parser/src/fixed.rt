@@ -4,6 +4,7 @@ ghost use Rattle.c_parser.specs.FixedWords.{fixed_word, is_fixed, same_kind as s
 
 use c_lexer::token::{IntSuffix, TokenKind};
 
+/// A word that the form fixes: a keyword, a punctuator, the number 0, or a word of an annotation.
 #[derive(Clone, Copy)]
 pub enum Fixed {
     Int,
@@ -28,6 +29,7 @@ pub enum Fixed {
     Assert,
     /// `weave_1`
     Label,
+    /// `\prop`, and so the words after it
     Prop,
     Name,
     Targets,

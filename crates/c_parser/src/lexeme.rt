@@ -12,6 +12,7 @@ ghost use Rattle.c_lexer.specs.declared.token.IntSuffix.TheVariants as suffix;
 use c_lexer::token::{Token, TokenKind};
 use std::str;
 
+/// What a token is and how it is spelled.
 #[derive(Clone, Copy)]
 pub struct Lexeme<'a> {
     pub kind: TokenKind,
@@ -28,6 +29,7 @@ pub fn lexeme_of<'a>(text: &'a [u8], token: &Token) -> Lexeme<'a>
     }
 }
 
+/// Bytes as text, where they are ASCII.
 pub fn ascii_text(bytes: &[u8]) -> &str
     requires { IsAscii bytes.now }
     ensures { result.now ≡ bytes.now }

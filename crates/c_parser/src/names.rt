@@ -30,6 +30,7 @@ impl<'a> Names<'a> {
         }
     }
 
+    /// The place of a name in the order of the declarations, from 0.
     pub fn place(&self, name: &str) -> Option<usize>
         ensures { result ≡ position (bytes_eq name.now) self.now }
     {
@@ -42,6 +43,7 @@ impl<'a> Names<'a> {
         self.set.contains(name)
     }
 
+    /// Adds a name that isn't there yet.
     pub fn push(&mut self, name: &'a str) -> Result<(), AllocError>
         requires { list_any (bytes_eq name.now) self.old ≡ false }
         ensures { OnOk result (self.new ≡ self.old ++ name.now ∷ []) }

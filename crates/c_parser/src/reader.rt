@@ -45,7 +45,7 @@ impl<'a> Reader<'a> {
         }
     }
 
-    /// Whether this word stands so many words on.
+    /// Whether this word stands at a place among the words that are left, from 0.
     #[tactic(auto, unfolding(crate::specs::Reading::is_at))]
     pub fn is_at(&self, place: usize, word: Fixed) -> bool
         ensures { result ≡ spec.is_at place word self.now.words }
@@ -115,7 +115,9 @@ impl<'a> Reader<'a> {
     {
         let found = self.take()?;
         match found.kind {
-            TokenKind::Number(IntSuffix::Plain) => number_in(found.bytes).ok_or(Fault::NotFirstForm),
+            TokenKind::Number(IntSuffix::Plain) => number_in(found.bytes).ok_or(
+                Fault::NotFirstForm,
+            ),
             _ => Err(Fault::NotFirstForm),
         }
     }
@@ -134,8 +136,8 @@ impl<'a> Reader<'a> {
 
     /// Sees that no word is left.
     #[tactic(auto, unfolding(crate::specs::Reading::finish))]
-    pub fn finish(&mut self) -> Result<(), Fault>
-        ensures { Reads (λ _. tt) (spec.finish self.old) result self.new }
+    pub fn finish(&self) -> Result<(), Fault>
+        ensures { Reads (λ _. tt) (spec.finish self.now) result self.now }
     {
         if self.tokens.is_empty() {
             Ok(())

@@ -4,12 +4,12 @@ ghost use Rattle.c_parser.specs.Reading as spec;
 
 use crate::names::Names;
 use crate::tree::Mode;
-use std::alloc::Global;
 
 /// The variables' names and then those of the functions so far.
 #[derive(Drop)]
 pub struct Scope<'a> {
     pub mode: Mode,
+    /// How many of the names are those of variables.
     pub variables: usize,
     pub names: Names<'a>,
 }

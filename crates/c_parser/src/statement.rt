@@ -88,7 +88,7 @@ fn woven_statement(reader: &mut Reader<'_>, scope: &Scope<'_>) -> Result<FirstSt
     requires { length scope.now.names < 2 ^ 32 }
     ensures { Reads (λ x. x) (spec.woven_statement scope.now.mode scope.now.variables scope.now.names reader.old) result reader.new }
 {
-    if let Mode::Source = scope.mode {
+    if scope.mode == Mode::Source {
         return Err(Fault::NotFirstForm);
     }
     if reader.is_at(0, Fixed::Semicolon) {

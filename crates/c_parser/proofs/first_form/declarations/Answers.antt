@@ -1,9 +1,9 @@
-use Rattle.std.proofs.Common.{◌≡◌, ◌+◌, ◌<◌, ◌≤◌, ◌++◌, ◌∷◌, [], List, ℕ, None, Some, length, map, sym, ap, ◌∙◌, rules, arith, true, false, length-append, subst, refl}
+use Rattle.std.proofs.Common.{◌≡◌, ◌++◌, ◌∷◌, [], None, Some, length, map, sym, ap, ◌∙◌, rules, arith, true, false, length-append, refl}
 use Rattle.std.proofs.lemmas.Grind.{common_steps}
 use Rattle.std.proofs.lemmas.List.{map-append}
 use Rattle.std.specs.String.{string_bytes}
 use Rattle.c_parser.specs.Reading as spec
-use Rattle.c_parser.proofs.Many.{Turn, Turn-first, Turn-next, Turn-fails, Turn-last}
+use Rattle.c_parser.proofs.Many.{Turn-first, Turn-next, Turn-fails, Turn-last}
 use Rattle.c_parser.proofs.Spending.{declaration-spends}
 use Rattle.c_parser.proofs.first_form.declarations.Goals as goal
 
@@ -21,7 +21,7 @@ returns-in_err-name-clause-read c =
     let found = map string_bytes c.loop-alloc.found.items in
     let goes_on : spec.begins_declaration c.loop-alloc.reader.words ≡ true = cc in
     let fails : spec.declaration c.loop-alloc.names c.loop-alloc.reader ≡ None → whole ≡ None =
-      λ e. Turn-fails spec.begins_declaration spec.declaration whole found c.loop-alloc.reader c.loop-alloc.invariant.turn goes_on (rw (← c.loop-alloc.invariant.named) e) in
+    λ e. Turn-fails spec.begins_declaration spec.declaration whole found c.loop-alloc.reader c.loop-alloc.invariant.turn goes_on (rw (← c.loop-alloc.invariant.named) e) in
     first_of (search rules, grind (arith, common_steps))
 
 pub loop-alloc-smaller : goal.loop-alloc-smaller
@@ -34,7 +34,7 @@ loop-alloc-preserved c =
     let goes_on : spec.begins_declaration c.loop-alloc.reader.words ≡ true = cc in
     let falls = declaration-spends c.loop-alloc.names c.loop-alloc.reader _ _ c.in_ok-name.ensures.read in
     let items : map string_bytes c.push.new.self.items ≡ found ++ c.in_ok-name.name.now ∷ [] =
-      ap (map string_bytes) c.in_ok-push.ensures.items ∙ map-append string_bytes c.loop-alloc.found.items (c.in_ok-from_str.field-0 ∷ []) ∙ ap (λ x. found ++ x ∷ []) c.in_ok-from_str.ensures.ok in
+    ap (map string_bytes) c.in_ok-push.ensures.items ∙ map-append string_bytes c.loop-alloc.found.items (c.in_ok-from_str.field-0 ∷ []) ∙ ap (λ x. found ++ x ∷ []) c.in_ok-from_str.ensures.ok in
     let names : c.push-in-loop-alloc.new.self ≡ found ++ c.in_ok-name.name.now ∷ [] = c.in_ok-push-2.ensures ∙ ap (λ xs. xs ++ c.in_ok-name.name.now ∷ []) c.loop-alloc.invariant.named in
     let read : spec.declaration found c.loop-alloc.reader ≡ Some (c.in_ok-name.name.now, c.declaration.new.reader) = rw (← c.loop-alloc.invariant.named) c.in_ok-name.ensures.read in
     record {

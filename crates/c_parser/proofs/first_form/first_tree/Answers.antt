@@ -1,6 +1,6 @@
-use Rattle.std.proofs.Common.{◌≡◌, ◌∙◌, None, Some, sym, ap}
+use Rattle.std.proofs.Common.{◌∙◌, sym, ap}
 use Rattle.c_parser.specs.Spelling.{words_of}
-use Rattle.c_parser.specs.Reading.{program, whole}
+use Rattle.c_parser.specs.Reading.{program}
 use Rattle.c_parser.proofs.WholeLaws.{spelled-from_read, none_spelled}
 use Rattle.c_parser.proofs.first_form.first_tree.Goals as goal
 

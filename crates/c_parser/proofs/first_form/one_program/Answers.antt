@@ -1,4 +1,4 @@
-use Rattle.c_parser.proofs.WholeLaws.{one_program_spelled, spelled-from_read}
+use Rattle.c_parser.proofs.WholeLaws.{one_program_spelled}
 use Rattle.c_parser.proofs.first_form.one_program.Goals as goal
 
 pub returns : goal.returns

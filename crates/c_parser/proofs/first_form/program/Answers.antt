@@ -9,7 +9,7 @@ all_functions-requires-clause-room c =
     let globals = c.in_ok-globals.globals in
     let count : c.len.result ≡ length (map string_bytes globals.items) = c.len.ensures ∙ globals.ok.0 ∙ sym (length-map globals.items string_bytes) in
     let keeps : c.declarations.new.reader.budget ≡ c.optional_property.new.reader.budget =
-      optional_property-keeps c.args.mode (map string_bytes globals.items) _ _ _ _ _ c.in_ok-globals.ensures.names count c.in_ok-property.ensures in
+    optional_property-keeps c.args.mode (map string_bytes globals.items) _ _ _ _ _ c.in_ok-globals.ensures.names count c.in_ok-property.ensures in
     let room = c.in_ok-globals.ensures.room in
     let below = c.requires in
     omega arith

@@ -1,4 +1,4 @@
-use Rattle.std.proofs.Common.{◌≡◌, ◌++◌, ◌∷◌, [], None, Some, rules, arith, true, false}
+use Rattle.std.proofs.Common.{◌≡◌, [], None, rules, arith, true, false}
 use Rattle.std.proofs.lemmas.Grind.{common_steps}
 use Rattle.c_parser.specs.Reading as spec
 use Rattle.c_parser.proofs.Many.{Turn-first, Turn-next, Turn-fails, Turn-last}
@@ -30,8 +30,8 @@ loop-found-preserved c =
     let whole = spec.body s.mode s.variables s.names c.args.reader.now in
     let goes_on : spec.body_goes_on c.loop-found.reader.words ≡ true = cc in
     rw c.in_ok-push.ensures.items
-        (Turn-next spec.body_goes_on item whole c.loop-found.found.items c.loop-found.reader _ _ c.loop-found.invariant goes_on c.in_ok-next_statement.ensures
-        (next_statement-spends s.mode s.variables s.names [] c.loop-found.reader _ _ c.requires.variables c.in_ok-next_statement.ensures))
+    (Turn-next spec.body_goes_on item whole c.loop-found.found.items c.loop-found.reader _ _ c.loop-found.invariant goes_on c.in_ok-next_statement.ensures
+    (next_statement-spends s.mode s.variables s.names [] c.loop-found.reader _ _ c.requires.variables c.in_ok-next_statement.ensures))
 
 pub returns : goal.returns
 returns c =
