@@ -2,7 +2,10 @@
 #![tactic(auto)]
 
 pub mod bytes;
-pub mod first;
+mod first;
 mod front;
 pub mod position;
-pub mod token;
+mod token;
+
+pub use first::{first_tokens, one_token_list, token_bytes, tokens_cover_text};
+pub use token::{IntSuffix, Place, Refusal, Token, TokenKind};

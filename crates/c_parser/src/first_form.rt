@@ -19,7 +19,7 @@ use crate::reader::Reader;
 use crate::scope::Scope;
 use crate::statement::{body, variable};
 use crate::tree::{FirstFunction, FirstProperty, FirstTree, Mode};
-use c_lexer::token::Token;
+use c_lexer::Token;
 use std::alloc::{AllocError, Global};
 
 /// Whether a variable or a function may have this name.
@@ -338,7 +338,7 @@ pub fn one_program()
 mod tests {
     use super::*;
     use crate::tree::FirstStmt;
-    use c_lexer::first::first_tokens;
+    use c_lexer::first_tokens;
     use std::test::Fail;
 
     fn read(alloc: Global, text: &[u8], mode: Mode) -> Result<Option<FirstTree>, AllocError> {

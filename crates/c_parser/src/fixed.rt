@@ -2,7 +2,7 @@
 ghost use Rattle.std.specs.Prelude.{◌≡◌};
 ghost use Rattle.c_parser.specs.FixedWords.{fixed_word, is_fixed, same_kind as same_kind_number};
 
-use c_lexer::token::{IntSuffix, TokenKind};
+use c_lexer::{IntSuffix, TokenKind};
 
 /// A word that the form fixes: a keyword, a punctuator, the number 0, or a word of an annotation.
 #[derive(Clone, Copy)]

@@ -9,7 +9,7 @@ ghost use Rattle.c_parser.specs.Lexemes.{lexeme_word};
 ghost use Rattle.c_lexer.specs.declared.token.TokenKind.TheVariants as kind;
 ghost use Rattle.c_lexer.specs.declared.token.IntSuffix.TheVariants as suffix;
 
-use c_lexer::token::{Token, TokenKind};
+use c_lexer::{Token, TokenKind};
 use std::str;
 
 /// What a token is and how it is spelled.

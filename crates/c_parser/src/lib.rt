@@ -2,11 +2,14 @@
 #![tactic(auto)]
 
 mod fault;
-pub mod first_form;
+mod first_form;
 mod fixed;
 mod lexeme;
 mod names;
 mod reader;
 mod scope;
 mod statement;
-pub mod tree;
+mod tree;
+
+pub use first_form::{first_tree, one_program};
+pub use tree::{FirstFunction, FirstProperty, FirstStmt, FirstTree, Mode};

@@ -10,7 +10,7 @@ ghost use Rattle.c_parser.specs.Lexemes.{lexeme_word, IsAllowedWord};
 use crate::fault::Fault;
 use crate::fixed::Fixed;
 use crate::lexeme::{Lexeme, ascii_text, lexeme_of, number_in};
-use c_lexer::token::{IntSuffix, Token, TokenKind};
+use c_lexer::{IntSuffix, Token, TokenKind};
 use std::marker::Model;
 
 /// The tokens that are left, and how many declarations, functions and statements may still come.

@@ -4,7 +4,7 @@ use Rattle.std.specs.List.{flat_map}
 use Rattle.std.specs.Fmt.{signed_decimal}
 use Rattle.c_parser.specs.declared.tree.FirstStmt.{FirstStmt}
 use Rattle.c_parser.specs.declared.tree.FirstStmt.TheVariants as stmt
-use Rattle.c_parser.specs.Program.{Function, Property, Program}
+use Rattle.c_parser.specs.Program.{Function, Program}
 use Rattle.c_parser.specs.Spelling.{name_at, names_of}
 
 abbrev pub declaration_text : List ℕ → List ℕ

@@ -6,7 +6,7 @@ ghost use Rattle.c_parser.specs.Program.{program_of, function_of};
 ghost use Rattle.c_parser.specs.Spelling.{name_at};
 ghost use Rattle.weave_cli.specs.Layout as spec;
 
-use c_parser::tree::{FirstFunction, FirstStmt, FirstTree};
+use c_parser::{FirstFunction, FirstStmt, FirstTree};
 use itoa::Buffer;
 use std::alloc::{AllocError, Global};
 

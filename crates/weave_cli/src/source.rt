@@ -8,9 +8,8 @@ ghost use Rattle.weave_cli.specs.Answers.{IsFirstProgram, IsWovenText};
 
 use crate::layout::program_text;
 use crate::weaving::weave;
-use c_lexer::first::first_tokens;
-use c_parser::first_form::first_tree;
-use c_parser::tree::{FirstTree, Mode};
+use c_lexer::first_tokens;
+use c_parser::{FirstTree, Mode, first_tree};
 use std::alloc::{AllocError, Global};
 
 /// The tree of a source, or nothing where it isn't of the first form.

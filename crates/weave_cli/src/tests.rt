@@ -1,9 +1,8 @@
 //! The program over the outside in memory.
 
 use crate::tool::tool;
-use c_lexer::first::first_tokens;
-use c_parser::first_form::first_tree;
-use c_parser::tree::Mode;
+use c_lexer::first_tokens;
+use c_parser::{Mode, first_tree};
 use std::alloc::{AllocError, Global};
 use std::process::Abort;
 use std::test::Fail;

@@ -7,7 +7,7 @@ ghost use Rattle.weave_cli.specs.Commands.{weave_file, usage_line, refusal_line,
 ghost use Rattle.weave_cli.specs.Answers.{Answers, Told};
 
 use crate::source::woven_text;
-use c_lexer::token::{Place, Refusal};
+use c_lexer::{Place, Refusal};
 use itoa::Buffer;
 use std::alloc::{AllocError, Global};
 use weave_base::{Failed, FileFault, Files, Sink, Source, Status};

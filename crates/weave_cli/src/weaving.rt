@@ -4,7 +4,7 @@ ghost use Rattle.std.specs.Prelude.{◌≡◌, ◌++◌, IfOk, OnOk, map};
 ghost use Rattle.c_parser.specs.Program.{program_of, function_of};
 ghost use Rattle.weave_cli.specs.Weaving as spec;
 
-use c_parser::tree::{FirstFunction, FirstStmt, FirstTree};
+use c_parser::{FirstFunction, FirstStmt, FirstTree};
 use std::alloc::{AllocError, Global};
 
 /// Adds what weaving makes of a statement, where the property is of the variable `x`.

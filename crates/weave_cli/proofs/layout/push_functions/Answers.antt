@@ -1,5 +1,5 @@
-use Rattle.std.proofs.Common.{◌≡◌, ◌∷◌, [], ◌++◌, sym, ◌∙◌}
-use Rattle.c_parser.specs.Program.{program_of, function_of}
+use Rattle.std.proofs.Common.{sym, ◌∙◌}
+use Rattle.c_parser.specs.Program.{program_of}
 use Rattle.weave_cli.proofs.LayoutLaws.{functions_text-split, joined}
 use Rattle.weave_cli.proofs.layout.push_functions.Goals as goal
 

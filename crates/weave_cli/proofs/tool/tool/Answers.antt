@@ -1,4 +1,4 @@
-use Rattle.std.proofs.Common.{refl, sym, ◌∙◌}
+use Rattle.std.proofs.Common.{refl, sym}
 use Rattle.weave_cli.specs.Answers.{usage}
 use Rattle.weave_cli.proofs.tool.tool.Goals as goal
 
