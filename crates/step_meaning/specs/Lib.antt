@@ -1,0 +1,17 @@
+pub mod Numbers
+pub mod Names
+pub mod Types
+pub mod Memory
+pub mod Steps
+pub mod State
+pub mod Views
+pub mod Terms
+pub mod Predicates
+pub mod Ghosts
+pub mod Flow
+pub mod Accesses
+pub mod Expressions
+pub mod Statements
+pub mod Calls
+pub mod Runs
+pub mod First
