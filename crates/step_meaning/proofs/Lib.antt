@@ -1,0 +1,4 @@
+pub mod Tells
+pub mod Flows
+pub mod Bounds
+pub mod FirstSteps
