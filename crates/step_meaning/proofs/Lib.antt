@@ -2,3 +2,4 @@ pub mod Tells
 pub mod Flows
 pub mod Bounds
 pub mod FirstSteps
+pub mod Examples
