@@ -3,3 +3,4 @@ pub mod Flows
 pub mod Bounds
 pub mod FirstSteps
 pub mod Examples
+pub mod Outcomes

@@ -15,3 +15,4 @@ pub mod Statements
 pub mod Calls
 pub mod Runs
 pub mod First
+pub mod Limits

@@ -11,7 +11,7 @@ mod value;
 mod view;
 
 pub use expr::{Answer, CompareOp, Expr, IntOp, Place_, Side, UnaryOp, UpdateOp, Variable};
-pub use laws::{flows_agree, same_first_steps};
+pub use laws::{flows_agree, outcome_is_computed, same_first_steps};
 pub use predicate::{Event, EventKind, Location, Predicate, Term, TermPlace};
 pub use program::{Core, Declared, Function, HookPlace, HookPoint, Hooks, Layout};
 pub use stmt::{GhostStmt, Stmt, VerdictKind};
