@@ -38,6 +38,7 @@ use Rattle.step_meaning.specs.declared.program.Declared.{Declared}
 use Rattle.step_meaning.specs.Steps.{Step, Item, Made, Judged, Exit, Fault, More, Trace, Stop, Then, items, steps, end}
 use Rattle.step_meaning.specs.Runs.{run}
 use Rattle.step_meaning.specs.First.{output}
+use Rattle.step_meaning.specs.Limits.{Outcome, Exited, CellsFull, CallsFull, Spent, outcome}
 
 -- ---- parts of programs
 
@@ -362,3 +363,43 @@ ghost_too_wide = refl
 -- ghost code is no step
 ghost_no_step : length (steps (run (setting_ghost (t.Int (pos 1))) [] 5)) ≡ 2
 ghost_no_step = refl
+
+-- ---- void f(void) { int a[160]; f(); } int main(void) { f(); return 0; }
+
+abbrev pub deep : Core
+deep = program [] [] (function type.Void (declared (array_of int 160) ∷ []) (s.Empty ∷ s.Eval (invoke 2) ∷ []) ∷ function int [] (s.Eval (invoke 2) ∷ return (lit 0) ∷ []) ∷ []) 3
+
+-- four activations of f fill 40 chunks
+cells_full : outcome deep [] 50 40 1000 ≡ record { made = 10; end = CellsFull }
+cells_full = refl
+
+calls_full : outcome deep [] 50 40 3 ≡ record { made = 6; end = CallsFull }
+calls_full = refl
+
+steps_spent : outcome deep [] 5 40 3 ≡ record { made = 5; end = Spent }
+steps_spent = refl
+
+-- ---- void f(void) { int a[160]; a[0] = 1; } int main(void) { int i; for (i = 0; i < 3; i = i + 1) f(); return 0; }
+
+abbrev pub repeated : Core
+repeated =
+    program [] []
+      (function type.Void (declared (array_of int 160) ∷ []) (s.Empty ∷ s.Eval (assign (index (local 0) (lit 0)) int (lit 1)) ∷ [])
+      ∷ function int (declared int ∷ []) (s.Empty
+          ∷ s.Eval (assign (local 0) int (lit 0))
+          ∷ s.For' (Some (compare comparing.Less (load (local 0)) (lit 3))) (Some (assign (local 0) int (binary op.Add kind.Int (load (local 0)) (lit 1)))) tt (more_of-Stmt (s.Eval (invoke 2)) end_of-Stmt)
+          ∷ return (lit 0)
+          ∷ [])
+      ∷ []) 3
+
+-- chunks given back serve again: at most 11 are live
+given_back : outcome repeated [] 50 11 1000 ≡ record { made = 29; end = Exited (pos 0) }
+given_back = refl
+
+not_enough : outcome repeated [] 50 10 1000 ≡ record { made = 5; end = CellsFull }
+not_enough = refl
+
+-- ---- int a[1616]; int main(void) { return 0; }
+
+globals_full : outcome (program (declared (array_of int 1616) ∷ []) (zero_cell ∷ []) (function int [] (return (lit 0) ∷ []) ∷ []) 2) [] 50 100 1000 ≡ record { made = 0; end = CellsFull }
+globals_full = refl

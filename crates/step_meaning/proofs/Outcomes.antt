@@ -1,11 +1,11 @@
 -- The outcome within limits that is computed along a run is the outcome.
 use Rattle.std.proofs.Common.{◌≡◌, ℕ, zero, suc, ◌+◌, ◌≤◌, ◌<◌, Bool, true, false, cond, List, [], ◌∷◌, length, Option, Some, None, refl, sym, ap, subst, ◌∙◌, arith, ◌==◌}
-use Rattle.std.specs.Prelude.{slice_get, nat_lt, ◌||◌, IsTrue, IsFalse}
+use Rattle.std.specs.Prelude.{slice_get, nat_lt, ◌&&◌, ◌||◌, not, IsTrue, IsFalse}
 use Rattle.std.proofs.Math.Dec.{eqb-suc-suc, eqb-zero-suc}
 use Rattle.step_meaning.specs.declared.program.Core.{Core}
-use Rattle.step_meaning.specs.Steps.{Step, Made, Judged, Exit, Fault, More, Trace, Stop, Then, steps, end}
+use Rattle.step_meaning.specs.Steps.{Step, Verdict, Made, Judged, Exit, Fault, More, Trace, Stop, Then, steps, end}
 use Rattle.step_meaning.specs.Runs.{run, start_memory}
-use Rattle.step_meaning.specs.Limits.{chunks, passes_calls, passes_cells, LimitedEnd, Spent, CallsFull, CellsFull, Outcome, own_end, stops_calls, MayMake, end_after, IsOutcomeOf, IsOutcome, one_more, outcome_of, outcome, OutcomeComputed}
+use Rattle.step_meaning.specs.Limits.{chunks, passes_calls, passes_cells, LimitedEnd, Exited, Faulted, Spent, CallsFull, CellsFull, Outcome, own_end, stops_calls, MayMake, end_after, IsOutcomeOf, IsOutcome, EndsBy, one_more, outcome_of, outcome, OutcomeComputed}
 use Rattle.step_meaning.proofs.Bounds.{bounds_alike}
 use Rattle.step_meaning.proofs.FirstSteps.{SpentLate, late_counts}
 
@@ -120,6 +120,55 @@ module _ (c d : ℕ) where
       le_antisym : {m k : ℕ} → m ≤ k → k ≤ m → m ≡ k
       le_antisym le le' = omega arith
 
+-- ---- why the run ends
+
+module _ (c d : ℕ) where
+  ends_more : (n : ℕ) (s : Step) (t : Trace) (m : ℕ) (e : LimitedEnd) → EndsBy c d n t m e → EndsBy c d (suc n) (Then (Made s) t) (suc m) e
+  ends_more n s t m (Exited v) h = (ap (λ k. suc k) h.0, h.1)
+  ends_more n s t m (Faulted f) h = (ap (λ k. suc k) h.0, h.1)
+  ends_more n s t m Spent h = (ap (λ k. suc k) h.0, longer h.1)
+    where
+      longer : n < length (steps t) → suc n < length (s ∷ steps t)
+      longer lt = omega arith
+  ends_more n s t m CallsFull h = (sooner h.0, h.1)
+    where
+      sooner : m < n → suc m < suc n
+      sooner lt = omega arith
+  ends_more n s t m CellsFull h = (sooner h.0, h.1)
+    where
+      sooner : m < n → suc m < suc n
+      sooner lt = omega arith
+
+  ends_judged : (n : ℕ) (v : Verdict) (t : Trace) (m : ℕ) (e : LimitedEnd) → EndsBy c d n t m e → EndsBy c d n (Then (Judged v) t) m e
+  ends_judged n v t m (Exited x) h = h
+  ends_judged n v t m (Faulted f) h = h
+  ends_judged n v t m Spent h = h
+  ends_judged n v t m CallsFull h = h
+  ends_judged n v t m CellsFull h = h
+
+  late_after : (n : ℕ) (s : Step) (t : Trace) → SpentLate (suc (suc n)) (Then (Made s) t) (Then (Made s) t) → SpentLate (suc n) t t
+  late_after n s t late h = less (late h)
+    where
+      less : suc (suc n) ≤ length (s ∷ steps t) → suc n ≤ length (steps t)
+      less le = omega arith
+
+  ends_at_step : (n : ℕ) (s : Step) (t : Trace) (b b' : Bool) → passes_calls d s ≡ b → passes_cells c s ≡ b' → EndsBy c d n t (outcome_of c d n t).made (outcome_of c d n t).end →
+      (let o : Outcome = cond b (record { made = 0; end = CallsFull }) (cond b' (record { made = 0; end = CellsFull }) (one_more (outcome_of c d n t))) in EndsBy c d (suc n) (Then (Made s) t) o.made o.end)
+  ends_at_step n s t true b' e e' h = (omega arith, (s, refl, e))
+  ends_at_step n s t false true e e' h = (omega arith, (s, refl, ap (λ b. not b && passes_cells c s) e ∙ e'))
+  ends_at_step n s t false false e e' h = ends_more n s t (outcome_of c d n t).made (outcome_of c d n t).end h
+
+  pub ends_along : (n : ℕ) (t : Trace) → SpentLate (suc n) t t → EndsBy c d n t (outcome_of c d n t).made (outcome_of c d n t).end
+  ends_along n (Stop (Exit v)) late = (refl, refl)
+  ends_along n (Stop (Fault f)) late = (refl, refl)
+  ends_along n (Stop More) late = absurd (none (late refl))
+    where
+      none : suc n ≤ 0 → ⊥
+      none le = omega arith
+  ends_along n (Then (Judged v) t) late = ends_judged n v t (outcome_of c d n t).made (outcome_of c d n t).end (ends_along n t late)
+  ends_along zero (Then (Made s) t) late = (refl, omega arith)
+  ends_along (suc n) (Then (Made s) t) late = ends_at_step n s t (passes_calls d s) (passes_cells c s) refl refl (ends_along n t (late_after n s t late))
+
 -- ---- the law
 
 module _ (q : Core) (input : List ℕ) (n c d : ℕ) where
@@ -130,6 +179,11 @@ module _ (q : Core) (input : List ℕ) (n c d : ℕ) where
   computed true e = record { globals_full = λ h. refl; runs = λ h. absurd (true_is_not_false (sym e ∙ h)) }
   computed false e = record { globals_full = λ h. absurd (true_is_not_false (sym h ∙ e)); runs = λ h. along c d n (run q input (n + 1)) }
 
+  ends : (b : Bool) → full ≡ b → IsFalse full →
+      (let o : Outcome = cond b (record { made = 0; end = CellsFull }) (outcome_of c d n (run q input (n + 1))) in EndsBy c d n (run q input (n + 1)) o.made o.end)
+  ends true e h = absurd (true_is_not_false (sym e ∙ h))
+  ends false e h = ends_along c d n (run q input (n + 1)) (bounds_alike SpentLate late_counts q input (suc n) (n + 1) (n + 1) (omega arith) (omega arith))
+
   only : (b : Bool) → full ≡ b → (o : Outcome) → IsOutcome q input n c d o → o ≡ cond b (record { made = 0; end = CellsFull }) (outcome_of c d n (run q input (n + 1)))
   only true e o a = a.globals_full e
   only false e o a = only_one c d n (run q input (n + 1)) o (outcome_of c d n (run q input (n + 1))) (a.runs e) (along c d n (run q input (n + 1)))
@@ -137,5 +191,6 @@ module _ (q : Core) (input : List ℕ) (n c d : ℕ) where
 pub outcome_computed : OutcomeComputed
 outcome_computed = record {
   is_outcome = λ q input n c d. computed q input n c d (nat_lt c (chunks (start_memory q))) refl;
-  alone = λ q input n c d o a. only q input n c d (nat_lt c (chunks (start_memory q))) refl o a;
+  unique = λ q input n c d o a. only q input n c d (nat_lt c (chunks (start_memory q))) refl o a;
+  ends_by = λ q input n c d h. ends q input n c d (nat_lt c (chunks (start_memory q))) refl h;
 }

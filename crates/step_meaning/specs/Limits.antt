@@ -1,6 +1,6 @@
 -- A run within limits: on the steps, on the chunks of cells that are live, and on the activations that are open.
 -- `IsOutcome` says what the outcome is; `outcome` computes it along the run. That the one is the other is a law.
-use Rattle.std.specs.Prelude.{◌≡◌, ℕ, zero, suc, ◌+◌, ◌/◌, ◌≤◌, ◌<◌, max, Bool, true, false, ◌&&◌, ◌||◌, cond, ◌==◌, nat_lt, IsTrue, IsFalse, ℤ, List, sum_by, length, slice_get, Option, Some, None}
+use Rattle.std.specs.Prelude.{◌≡◌, ℕ, zero, suc, ◌+◌, ◌/◌, ◌≤◌, ◌<◌, max, Bool, true, false, ◌&&◌, ◌||◌, not, cond, ◌==◌, nat_lt, IsTrue, IsFalse, ℤ, List, sum_by, length, slice_get, Option, Some, None}
 use Rattle.step_meaning.specs.declared.value.Action.{Action}
 use Rattle.step_meaning.specs.declared.value.Action.TheVariants.{Enter}
 use Rattle.step_meaning.specs.declared.value.RunFault.{RunFault}
@@ -99,7 +99,23 @@ outcome_of c d (suc n) (Then (Made s) t) =
 abbrev pub outcome : Core → List ℕ → ℕ → ℕ → ℕ → Outcome
 outcome q input n c d = cond (nat_lt c (chunks (start_memory q))) (record { made = 0; end = CellsFull }) (outcome_of c d n (run q input (n + 1)))
 
+-- ---- why the run ends after m steps
+
+module _ (c d n : ℕ) (t : Trace) (m : ℕ) where
+  -- step m + 1 is there and passes a test
+  abbrev pub NextStep : (Step → Bool) → Type 0
+  NextStep test = (s : Step) × (slice_get (steps t) m ≡ Some s) × IsTrue (test s)
+
+  abbrev pub EndsBy : LimitedEnd → Type 0
+  EndsBy (Exited v) = (length (steps t) ≡ m) × (end t ≡ Exit v)
+  EndsBy (Faulted f) = (length (steps t) ≡ m) × (end t ≡ Fault f)
+  EndsBy Spent = (m ≡ n) × (n < length (steps t))
+  EndsBy CallsFull = (m < n) × NextStep (passes_calls d)
+  EndsBy CellsFull = (m < n) × NextStep (λ s. not (passes_calls d s) && passes_cells c s)
+
 -- the outcome is there, it is this one and no other
 pub record OutcomeComputed : Type 0 where
   pub is_outcome : (q : Core) (input : List ℕ) (n c d : ℕ) → IsOutcome q input n c d (outcome q input n c d)
-  pub alone : (q : Core) (input : List ℕ) (n c d : ℕ) (o : Outcome) → IsOutcome q input n c d o → o ≡ outcome q input n c d
+  pub unique : (q : Core) (input : List ℕ) (n c d : ℕ) (o : Outcome) → IsOutcome q input n c d o → o ≡ outcome q input n c d
+  -- where the run begins, it ends by its own end after its last step, with n steps made and one more to come, or before an Enter that passes a limit
+  pub ends_by : (q : Core) (input : List ℕ) (n c d : ℕ) → IsFalse (nat_lt c (chunks (start_memory q))) → EndsBy c d n (run q input (n + 1)) (outcome q input n c d).made (outcome q input n c d).end
