@@ -16,3 +16,7 @@ pub mod Calls
 pub mod Runs
 pub mod First
 pub mod Limits
+pub mod Erasure
+pub mod StepViews
+pub mod Bounded
+pub mod Traced
