@@ -1,6 +1,6 @@
 -- What runs with larger bounds have in common: one induction for every relation of traces that counts steps.
 -- A bound of n or more is spent only after n steps, since each turn and each activation makes one.
-use Rattle.std.proofs.Common.{◌≡◌, ℕ, zero, suc, ◌≤◌, Bool, true, false, cond, List, [], ◌∷◌, Option, Some, None, Result, Ok, Err, refl, ap, arith}
+use Rattle.std.proofs.Common.{ℕ, zero, suc, ◌≤◌, Bool, true, false, cond, List, [], ◌∷◌, Option, Some, None, Result, Ok, Err, arith}
 use Rattle.std.specs.Prelude.{ℤ, slice_get, option_map}
 use Rattle.step_meaning.specs.declared.value.CType.{CType}
 use Rattle.step_meaning.specs.declared.value.CType.TheVariants as type
@@ -29,9 +29,9 @@ use Rattle.step_meaning.specs.declared.program.Function.{Function}
 use Rattle.step_meaning.specs.declared.program.Layout.{Layout}
 use Rattle.step_meaning.specs.Names.{truth, of_truth, moved}
 use Rattle.step_meaning.specs.Memory.{Memory, room_at, reached, stored}
-use Rattle.step_meaning.specs.Steps.{Step, Verdict, Item, Made, Judged, End, Exit, Fault, More, Trace, Stop, Then}
+use Rattle.step_meaning.specs.Steps.{Step, Verdict, Made, Judged, End, Exit, Fault, More, Trace, Stop, Then}
 use Rattle.step_meaning.specs.State.{State, Registers, Here, unset_registers, Lvalue, InRegister, At, register_at, set_register, designated}
-use Rattle.step_meaning.specs.Flow.{resting, Resting, RestingCall, step_by}
+use Rattle.step_meaning.specs.Flow.{resting, Resting, RestingCall}
 use Rattle.step_meaning.specs.Accesses as acc
 use Rattle.step_meaning.specs.Accesses.{converted_to}
 use Rattle.step_meaning.specs.Expressions as ex

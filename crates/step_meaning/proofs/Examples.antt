@@ -8,8 +8,6 @@ use Rattle.step_meaning.specs.declared.value.CType.TheVariants as type
 use Rattle.step_meaning.specs.declared.value.NameKind.TheVariants as names
 use Rattle.step_meaning.specs.declared.value.Value.{Value}
 use Rattle.step_meaning.specs.declared.value.Value.TheVariants as value
-use Rattle.step_meaning.specs.declared.value.Cell.{Cell}
-use Rattle.step_meaning.specs.declared.value.Cell.TheVariants as cell
 use Rattle.step_meaning.specs.declared.value.Action.{Action}
 use Rattle.step_meaning.specs.declared.value.Action.TheVariants as act
 use Rattle.step_meaning.specs.declared.value.RunFault.TheVariants as fault
@@ -24,9 +22,7 @@ use Rattle.step_meaning.specs.declared.expr.Place_.{Place_, end_of-Place_, more_
 use Rattle.step_meaning.specs.declared.expr.Place_.TheVariants as p
 use Rattle.step_meaning.specs.declared.predicate.Term.{Term, end_of-Term, more_of-Term}
 use Rattle.step_meaning.specs.declared.predicate.Term.TheVariants as t
-use Rattle.step_meaning.specs.declared.predicate.TermPlace.{TermPlace}
 use Rattle.step_meaning.specs.declared.predicate.TermPlace.TheVariants as tp
-use Rattle.step_meaning.specs.declared.predicate.Predicate.{Predicate}
 use Rattle.step_meaning.specs.declared.predicate.Predicate.TheVariants as is
 use Rattle.step_meaning.specs.declared.stmt.VerdictKind.TheVariants.{Safe}
 use Rattle.step_meaning.specs.declared.stmt.GhostStmt.TheVariants.{Set}
@@ -35,10 +31,10 @@ use Rattle.step_meaning.specs.declared.stmt.Stmt.TheVariants as s
 use Rattle.step_meaning.specs.declared.program.Core.{Core}
 use Rattle.step_meaning.specs.declared.program.Function.{Function}
 use Rattle.step_meaning.specs.declared.program.Declared.{Declared}
-use Rattle.step_meaning.specs.Steps.{Step, Item, Made, Judged, Exit, Fault, More, Trace, Stop, Then, items, steps, end}
+use Rattle.step_meaning.specs.Steps.{Step, Item, Made, Judged, Exit, Fault, More, items, steps, end}
 use Rattle.step_meaning.specs.Runs.{run}
 use Rattle.step_meaning.specs.First.{output}
-use Rattle.step_meaning.specs.Limits.{Outcome, Exited, CellsFull, CallsFull, Spent, outcome}
+use Rattle.step_meaning.specs.Limits.{Exited, CellsFull, CallsFull, Spent, outcome}
 
 -- ---- parts of programs
 
@@ -172,12 +168,12 @@ one_short_steps = refl
 abbrev pub loop_continues : Core
 loop_continues =
     program (declared int ∷ []) (zero_cell ∷ [])
-      (function type.Void [] (s.Eval (assign (global 0) int (binary op.Add kind.Int (load (global 0)) (lit 1))) ∷ [])
-      ∷ function int [] (s.Eval (assign (global 0) int (lit 0))
-          ∷ s.For' (Some (compare comparing.Less (load (global 0)) (lit 2))) (Some (invoke 2)) tt (more_of-Stmt s.Continue end_of-Stmt)
-          ∷ return (lit 0)
-          ∷ [])
-      ∷ []) 3
+    (function type.Void [] (s.Eval (assign (global 0) int (binary op.Add kind.Int (load (global 0)) (lit 1))) ∷ [])
+    ∷ function int [] (s.Eval (assign (global 0) int (lit 0))
+    ∷ s.For' (Some (compare comparing.Less (load (global 0)) (lit 2))) (Some (invoke 2)) tt (more_of-Stmt s.Continue end_of-Stmt)
+    ∷ return (lit 0)
+    ∷ [])
+    ∷ []) 3
 
 loop_ends : end (run loop_continues [] 20) ≡ Exit (pos 0)
 loop_ends = refl
@@ -224,10 +220,10 @@ initialise n = s.Init (record { kind = names.Local; index = 0 }) 0 int (lit n)
 abbrev pub dangling : Core
 dangling =
     program (declared (pointer_to int) ∷ []) ((value.Null ∷ []) ∷ [])
-      (function type.Void (declared int ∷ []) (initialise 5 ∷ s.Eval (assign (global 0) (pointer_to int) (e.Address (local 0) int)) ∷ [])
-      ∷ function type.Void (declared int ∷ []) (initialise 7 ∷ [])
-      ∷ function int [] (s.Eval (invoke 2) ∷ s.Eval (invoke 3) ∷ return (load (deref (e.Load (global 0) (pointer_to int)))) ∷ [])
-      ∷ []) 4
+    (function type.Void (declared int ∷ []) (initialise 5 ∷ s.Eval (assign (global 0) (pointer_to int) (e.Address (local 0) int)) ∷ [])
+    ∷ function type.Void (declared int ∷ []) (initialise 7 ∷ [])
+    ∷ function int [] (s.Eval (invoke 2) ∷ s.Eval (invoke 3) ∷ return (load (deref (e.Load (global 0) (pointer_to int)))) ∷ [])
+    ∷ []) 4
 
 dangling_ends : end (run dangling [] 20) ≡ Fault fault.Invalid
 dangling_ends = refl
@@ -268,13 +264,13 @@ put_it = s.Eval (e.PutChar' tt (more_of-Expr (load (local 0)) end_of-Expr))
 abbrev pub echo : Core
 echo =
     program [] []
-      (function int (declared int ∷ [])
-        (s.Empty
-        ∷ get_next
-        ∷ s.While' (compare comparing.Unequal (load (local 0)) (e.Literal kind.Int (negsuc 0))) tt (more_of-Stmt (s.Block' (tt ∷ tt ∷ []) (more_of-Stmt put_it (more_of-Stmt get_next end_of-Stmt))) end_of-Stmt)
-        ∷ return (lit 0)
-        ∷ [])
-      ∷ []) 2
+    (function int (declared int ∷ [])
+    (s.Empty
+    ∷ get_next
+    ∷ s.While' (compare comparing.Unequal (load (local 0)) (e.Literal kind.Int (negsuc 0))) tt (more_of-Stmt (s.Block' (tt ∷ tt ∷ []) (more_of-Stmt put_it (more_of-Stmt get_next end_of-Stmt))) end_of-Stmt)
+    ∷ return (lit 0)
+    ∷ [])
+    ∷ []) 2
 
 echo_ends : end (run echo (codes "hi") 50) ≡ Exit (pos 0)
 echo_ends = refl
@@ -384,13 +380,13 @@ steps_spent = refl
 abbrev pub repeated : Core
 repeated =
     program [] []
-      (function type.Void (declared (array_of int 160) ∷ []) (s.Empty ∷ s.Eval (assign (index (local 0) (lit 0)) int (lit 1)) ∷ [])
-      ∷ function int (declared int ∷ []) (s.Empty
-          ∷ s.Eval (assign (local 0) int (lit 0))
-          ∷ s.For' (Some (compare comparing.Less (load (local 0)) (lit 3))) (Some (assign (local 0) int (binary op.Add kind.Int (load (local 0)) (lit 1)))) tt (more_of-Stmt (s.Eval (invoke 2)) end_of-Stmt)
-          ∷ return (lit 0)
-          ∷ [])
-      ∷ []) 3
+    (function type.Void (declared (array_of int 160) ∷ []) (s.Empty ∷ s.Eval (assign (index (local 0) (lit 0)) int (lit 1)) ∷ [])
+    ∷ function int (declared int ∷ []) (s.Empty
+    ∷ s.Eval (assign (local 0) int (lit 0))
+    ∷ s.For' (Some (compare comparing.Less (load (local 0)) (lit 3))) (Some (assign (local 0) int (binary op.Add kind.Int (load (local 0)) (lit 1)))) tt (more_of-Stmt (s.Eval (invoke 2)) end_of-Stmt)
+    ∷ return (lit 0)
+    ∷ [])
+    ∷ []) 3
 
 -- chunks given back serve again: at most 11 are live
 given_back : outcome repeated [] 50 11 1000 ≡ record { made = 29; end = Exited (pos 0) }

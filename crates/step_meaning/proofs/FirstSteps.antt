@@ -1,5 +1,5 @@
 -- Larger bounds give the same first steps, and a spent bound has been made in steps.
-use Rattle.std.proofs.Common.{◌≡◌, ℕ, zero, suc, ◌+◌, ◌≤◌, List, ◌∷◌, take, length, refl, sym, ap, subst, ◌∙◌, arith}
+use Rattle.std.proofs.Common.{◌≡◌, ℕ, zero, suc, ◌+◌, ◌≤◌, ◌∷◌, take, length, refl, sym, ap, subst, ◌∙◌, arith}
 use Rattle.step_meaning.specs.Steps.{Step, Verdict, Made, Judged, End, More, Trace, Stop, Then, steps, end}
 use Rattle.step_meaning.specs.Runs.{run}
 use Rattle.step_meaning.specs.First.{first_items, SameFirstSteps}

@@ -27,17 +27,17 @@ use Rattle.step_meaning.specs.declared.program.Function.{Function}
 use Rattle.step_meaning.specs.declared.program.Layout.{Layout}
 use Rattle.step_meaning.specs.Names.{truth, of_truth, moved}
 use Rattle.step_meaning.specs.Memory.{room_at, reached, stored}
-use Rattle.step_meaning.specs.Steps.{More, Fault, Trace, Stop, Then}
-use Rattle.step_meaning.specs.State.{State, Registers, Here, unset_registers, Lvalue, InRegister, At, register_at, set_register, designated}
-use Rattle.step_meaning.specs.Flow.{resting, Resting, RestingCall, direct, Direct, DirectCall, World, CallGives, Returned as ReturnedCall, Ended}
+use Rattle.step_meaning.specs.Steps.{More, Fault, Stop}
+use Rattle.step_meaning.specs.State.{Here, unset_registers, Lvalue, InRegister, At, register_at, set_register, designated}
+use Rattle.step_meaning.specs.Flow.{resting, Resting, RestingCall, direct, Direct, DirectCall, CallGives, Returned as ReturnedCall, Ended}
 use Rattle.step_meaning.specs.Accesses as acc
 use Rattle.step_meaning.specs.Expressions as ex
 use Rattle.step_meaning.specs.Statements as sm
 use Rattle.step_meaning.specs.Statements.{Completion, Next, Broken, Continued, Returned}
 use Rattle.step_meaning.specs.Calls as ca
 use Rattle.step_meaning.specs.Calls.{annotations, after_annotations}
-use Rattle.step_meaning.specs.Runs.{run, direct_run, Told, told_by, start_state, start_world, exit_of, after_log, trace_of}
-use Rattle.step_meaning.proofs.Tells.{rest_after, rest_after_call, Tells, CallTells, tells_bind, tells_then, tells_pure, tells_stop, tells_get, tells_put_memory, tells_put_ghosts, tells_put_input, tells_put_made, tells_registers, tells_put_registers, tells_judge, tells_halt, tells_misuse, tells_cond, tells_emit, call_tells_alone, tells_through}
+use Rattle.step_meaning.specs.Runs.{run, direct_run, told_by, start_state, start_world, exit_of, trace_of}
+use Rattle.step_meaning.proofs.Tells.{rest_after_call, Tells, CallTells, tells_bind, tells_then, tells_pure, tells_stop, tells_get, tells_put_memory, tells_put_ghosts, tells_put_input, tells_put_made, tells_registers, tells_put_registers, tells_judge, tells_halt, tells_misuse, tells_cond, tells_emit, call_tells_alone, tells_through}
 
 module _ (here : Here) where
   tells_checked : {A : Type 0} (c : Result A RunFault) → Tells (acc.checked resting here c) (acc.checked direct here c)

@@ -5,7 +5,7 @@ use Rattle.std.proofs.Math.Dec.{eqb-suc-suc, eqb-zero-suc}
 use Rattle.step_meaning.specs.declared.program.Core.{Core}
 use Rattle.step_meaning.specs.Steps.{Step, Verdict, Made, Judged, Exit, Fault, More, Trace, Stop, Then, steps, end}
 use Rattle.step_meaning.specs.Runs.{run, start_memory}
-use Rattle.step_meaning.specs.Limits.{chunks, passes_calls, passes_cells, LimitedEnd, Exited, Faulted, Spent, CallsFull, CellsFull, Outcome, own_end, stops_calls, MayMake, end_after, IsOutcomeOf, IsOutcome, EndsBy, one_more, outcome_of, outcome, OutcomeComputed}
+use Rattle.step_meaning.specs.Limits.{chunks, passes_calls, passes_cells, LimitedEnd, Exited, Faulted, Spent, CallsFull, CellsFull, Outcome, own_end, stops_calls, MayMake, end_after, IsOutcomeOf, IsOutcome, EndsBy, one_more, outcome_of, OutcomeComputed}
 use Rattle.step_meaning.proofs.Bounds.{bounds_alike}
 use Rattle.step_meaning.proofs.FirstSteps.{SpentLate, late_counts}
 
@@ -31,8 +31,10 @@ module _ (c d : ℕ) where
     where
       up : m ≤ n → suc m ≤ suc n
       up le = omega arith
+
       longer : m ≤ length ss → suc m ≤ length (s ∷ ss)
       longer le = omega arith
+
       inside : (i : ℕ) (z : Step) → i < suc m → slice_get (s ∷ ss) i ≡ Some z → IsFalse (passes_calls d z || passes_cells c z)
       inside zero z lt e = subst (λ z. IsFalse (passes_calls d z || passes_cells c z)) (some_inj s z e) ok
       inside (suc i) z lt e = may.within i z (omega arith) e
@@ -42,6 +44,7 @@ module _ (c d : ℕ) where
     where
       down : suc m ≤ suc n → m ≤ n
       down le = omega arith
+
       shorter : suc m ≤ length (s ∷ ss) → m ≤ length ss
       shorter le = omega arith
 
@@ -74,8 +77,8 @@ module _ (c d : ℕ) where
         made = makes_none (suc n) (s ∷ steps t);
         greatest = λ k may. makes_only_none (suc n) k s (steps t) full may;
         ends = sym is
-          ∙ sym (ap (λ b. cond b (own_end (end t)) (cond (0 == suc n) Spent last)) (eqb-zero-suc (length (steps t)))
-          ∙ ap (λ b. cond b Spent last) (eqb-zero-suc n));
+            ∙ sym (ap (λ b. cond b (own_end (end t)) (cond (0 == suc n) Spent last)) (eqb-zero-suc (length (steps t)))
+            ∙ ap (λ b. cond b Spent last) (eqb-zero-suc n));
       }
 
   -- ---- along a run

@@ -1,13 +1,13 @@
 -- When the two flows tell the same: the items of the direct one, and then the rest of the run after the same value and state.
-use Rattle.std.proofs.Common.{◌≡◌, ℕ, Bool, true, false, cond, List, [], ◌∷◌, refl, ap, ◌∙◌}
+use Rattle.std.proofs.Common.{◌≡◌, ℕ, Bool, true, false, cond, List, refl, ◌∙◌}
 use Rattle.step_meaning.specs.declared.value.Value.{Value}
 use Rattle.step_meaning.specs.declared.value.Action.{Action}
 use Rattle.step_meaning.specs.declared.value.RunFault.{RunFault}
 use Rattle.step_meaning.specs.declared.stmt.VerdictKind.{VerdictKind}
 use Rattle.step_meaning.specs.Memory.{Memory}
-use Rattle.step_meaning.specs.Steps.{Item, End, Trace, Stop, Then}
+use Rattle.step_meaning.specs.Steps.{End, Trace, Stop}
 use Rattle.step_meaning.specs.State.{State, Registers, Here}
-use Rattle.step_meaning.specs.Flow.{Flow, Resting, RestingCall, Direct, DirectCall, resting, direct, World, state_of, Gives, Done, Over, Stuck, CallGives, Returned, Ended, onward, as_call, after_call}
+use Rattle.step_meaning.specs.Flow.{Resting, RestingCall, Direct, DirectCall, resting, direct, World, state_of, Gives, Done, Over, Stuck, CallGives, Returned, Ended, onward, as_call, after_call}
 use Rattle.step_meaning.specs.Runs.{after_log}
 
 abbrev pub rest_after : {A : Type 0} → Gives A → (A → State → Registers → Trace) → Trace

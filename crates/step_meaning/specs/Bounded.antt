@@ -1,14 +1,13 @@
 -- When a predicate or term is bounded in a view: each integer term in it that is defined there, and each offset in cells with the products that it is made of, lies from -(2 ^ 127 - 1) to 2 ^ 127 - 1.
 -- The rules on predicates see to this for every text that is accepted; the evaluation of predicates relies on it.
-use Rattle.std.specs.Prelude.{ℕ, ◌-◌, ◌^◌, ◌≤ℤ◌, ℤ, pos, ◌+ℤ◌, ◌*ℤ◌, neg_ℤ, List, [], ◌∷◌, length, All, Option, Some, None}
-use Rattle.step_meaning.specs.declared.value.CType.{CType}
+use Rattle.std.specs.Prelude.{ℕ, ◌-◌, ◌^◌, ◌≤ℤ◌, ℤ, pos, ◌+ℤ◌, ◌*ℤ◌, neg_ℤ, length, All, Option, Some, None}
 use Rattle.step_meaning.specs.declared.predicate.Term.{Term, end_of-Term, more_of-Term}
 use Rattle.step_meaning.specs.declared.predicate.Term.TheVariants as t
 use Rattle.step_meaning.specs.declared.predicate.TermPlace.{TermPlace, end_of-TermPlace, more_of-TermPlace}
 use Rattle.step_meaning.specs.declared.predicate.TermPlace.TheVariants as p
 use Rattle.step_meaning.specs.declared.predicate.Location.{Location}
 use Rattle.step_meaning.specs.declared.predicate.Predicate.{Predicate, end_of-Predicate, more_of-Predicate}
-use Rattle.step_meaning.specs.declared.predicate.Predicate.TheVariants.{True, False, Not', And', Or', Implies', Iff', Relation, Valid, Separated, Called, Event as IsEvent}
+use Rattle.step_meaning.specs.declared.predicate.Predicate.TheVariants.{Not', And', Or', Implies', Iff', Relation, Valid, Separated}
 use Rattle.step_meaning.specs.Views.{Sight, Reads, now, at_enter}
 use Rattle.step_meaning.specs.Terms.{TermValue, Number, NullPointer, PointerTo, value_by, place_by, value_of}
 use Rattle.step_meaning.specs.Predicates.{denoted_types}

@@ -1,6 +1,6 @@
 -- What an expression does, and its value (C11 6.5). Operands and arguments are evaluated from left to right.
 -- An expression of type `void` has the value 0, which nothing uses.
-use Rattle.std.specs.Prelude.{ℕ, Bool, true, false, not, cond, ℤ, pos, ◌*ℤ◌, List, [], ◌∷◌}
+use Rattle.std.specs.Prelude.{ℕ, true, false, not, cond, pos, ◌*ℤ◌, List, [], ◌∷◌}
 use Rattle.step_meaning.specs.declared.value.Value.{Value}
 use Rattle.step_meaning.specs.declared.value.Value.TheVariants as value
 use Rattle.step_meaning.specs.declared.value.Action.TheVariants as act
@@ -11,7 +11,7 @@ use Rattle.step_meaning.specs.Numbers.{converted, binary_of, unary_of}
 use Rattle.step_meaning.specs.Names.{truth, of_truth, integer, distance, compared}
 use Rattle.step_meaning.specs.State.{Here, Lvalue, At, designated}
 use Rattle.step_meaning.specs.Flow.{Flow}
-use Rattle.step_meaning.specs.Accesses.{◌>>=◌, ◌>>◌, checked, load, store, address_of, object_after, as_int, as_truth, move_elements, updated, answer, get_char, put_char}
+use Rattle.step_meaning.specs.Accesses.{checked, load, store, address_of, object_after, as_int, as_truth, move_elements, updated, answer, get_char, put_char}
 
 -- `call` is what a call does, of a function by its number with its arguments
 module _ (F : Flow) (call : ℕ → List Value → F.Plain) (here : Here) where

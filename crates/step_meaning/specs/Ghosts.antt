@@ -1,6 +1,6 @@
 -- Ghost code and assertions (ACSL, ghost variables and statements; assertions).
 -- Ghost code makes no step and can't fault. It writes ghost variables alone, and sees the memory, the registers of its activation and the ghost variables.
-use Rattle.std.specs.Prelude.{ℕ, Bool, cond, if◌then◌else◌, ℤ, List, [], ◌∷◌, Option, Some, None, option_and_then}
+use Rattle.std.specs.Prelude.{ℕ, Bool, cond, if◌then◌else◌, List, [], ◌∷◌, Option, Some, None, option_and_then}
 use Rattle.step_meaning.specs.declared.value.CType.{CType}
 use Rattle.step_meaning.specs.declared.value.CType.TheVariants as type
 use Rattle.step_meaning.specs.declared.value.NameKind.{NameKind}

@@ -1,5 +1,5 @@
 -- What a statement does, and how it is left (C11 6.8). A loop makes at most so many turns as the bound says.
-use Rattle.std.specs.Prelude.{ℕ, zero, suc, Bool, cond, List, [], ◌∷◌, Option, Some, None, option_map}
+use Rattle.std.specs.Prelude.{ℕ, zero, suc, cond, List, [], ◌∷◌, Option, Some, None, option_map}
 use Rattle.step_meaning.specs.declared.value.Value.{Value}
 use Rattle.step_meaning.specs.declared.value.Action.TheVariants as act
 use Rattle.step_meaning.specs.declared.expr.Expr.{Expr}
@@ -14,7 +14,7 @@ use Rattle.step_meaning.specs.Steps.{More}
 use Rattle.step_meaning.specs.State.{Here, designated}
 use Rattle.step_meaning.specs.Ghosts.{ghosts_after, assertion_holds}
 use Rattle.step_meaning.specs.Flow.{Flow}
-use Rattle.step_meaning.specs.Accesses.{◌>>=◌, ◌>>◌, store}
+use Rattle.step_meaning.specs.Accesses.{store}
 use Rattle.step_meaning.specs.Expressions.{eval}
 
 -- how a statement is left (C11 6.8.6): at its end, by `break`, by `continue`, or by `return`

@@ -9,7 +9,7 @@ use Rattle.step_meaning.specs.declared.value.Cell.{Cell}
 use Rattle.step_meaning.specs.declared.value.Cell.TheVariants.{Nothing, Holds}
 use Rattle.step_meaning.specs.declared.predicate.Event.{Event}
 use Rattle.step_meaning.specs.declared.program.Layout.{Layout}
-use Rattle.step_meaning.specs.Memory.{Memory, Block, Slot, file_block, frame_block, block, slot_at, typed}
+use Rattle.step_meaning.specs.Memory.{Memory, Block, file_block, frame_block, block, slot_at, typed}
 use Rattle.step_meaning.specs.State.{Registers}
 
 -- what a predicate sees
