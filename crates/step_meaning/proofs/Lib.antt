@@ -1,0 +1,6 @@
+pub mod Tells
+pub mod Flows
+pub mod Bounds
+pub mod FirstSteps
+pub mod Examples
+pub mod Outcomes

@@ -1,0 +1,20 @@
+//! The meaning of a program of the C subset: its core tree, and in `specs/` its memory, steps, runs and predicates.
+#![tactic(auto)]
+
+mod expr;
+mod laws;
+mod predicate;
+mod program;
+mod stmt;
+mod text;
+mod value;
+mod view;
+
+pub use expr::{Answer, CompareOp, Expr, IntOp, Place_, Side, UnaryOp, UpdateOp, Variable};
+pub use laws::{flows_agree, outcome_is_computed, same_first_steps};
+pub use predicate::{Event, EventKind, Location, Predicate, Term, TermPlace};
+pub use program::{Core, Declared, Function, HookPlace, HookPoint, Hooks, Layout};
+pub use stmt::{GhostStmt, Stmt, VerdictKind};
+pub use text::Text;
+pub use value::{Action, CType, Cell, IntKind, Name, NameKind, RunFault, Value};
+pub use view::View;
