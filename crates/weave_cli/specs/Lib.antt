@@ -2,3 +2,6 @@ pub mod Commands
 pub mod Weaving
 pub mod Layout
 pub mod Answers
+pub mod FirstCore
+pub mod Simulation
+pub mod FirstTask

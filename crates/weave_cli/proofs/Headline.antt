@@ -1,0 +1,79 @@
+-- The headline for the first form: what weaving makes of a program simulates it and judges its property.
+use Rattle.std.proofs.Common.{◌≡◌, ℕ, zero, suc, ◌≤◌, Bool, true, false, List, [], ◌∷◌, map, length, take, Option, Some, None, refl, sym, ap, subst, ◌∙◌, arith}
+use Rattle.std.specs.Prelude.{◌↔◌, slice_get}
+use Rattle.std.specs.List.{AllByRecursion}
+use Rattle.std.proofs.lemmas.List.{length-map}
+use Rattle.step_meaning.specs.declared.program.Core.{Core}
+use Rattle.step_meaning.specs.declared.program.Function.{Function as CoreFunction}
+use Rattle.step_meaning.specs.Steps.{Step, Verdict, Trace, steps, end}
+use Rattle.step_meaning.specs.Runs.{run}
+use Rattle.c_parser.specs.declared.tree.Mode.TheVariants as mode
+use Rattle.c_parser.specs.Program.{Function, Property, Program}
+use Rattle.c_parser.specs.FirstForm.{BodiesFit, IsFirstForm}
+use Rattle.weave_cli.specs.FirstCore.{core_functions, getchar, putchar, first_core}
+use Rattle.weave_cli.specs.Weaving.{property_function, woven}
+use Rattle.weave_cli.specs.Simulation.{verdicts, verdicts_before, AreSafe, HasNoAccept, IsMonitor, Simulates}
+use Rattle.weave_cli.specs.FirstTask.{NeverWrites, no_automaton, meets, monitor_count, SimulatesFirst}
+use Rattle.weave_cli.proofs.WovenTraces.{Woven}
+use Rattle.weave_cli.proofs.WovenRuns.{FunctionsAlike, all_alike, with_functions, run_woven}
+use Rattle.weave_cli.proofs.WovenSimulates as law
+
+false_is_not_true : false ≡ true → ⊥
+false_is_not_true e = cc
+
+no_monitor : (j : ℕ) → IsMonitor 0 j → ⊥
+no_monitor j is = omega (arith, is.from_one, is.to_last)
+
+-- two cores whose functions are alike, and whose property is of the variable x
+module _ (x : ℕ) (p : Core) (fs fs' : List CoreFunction) (same : (g : ℕ) → FunctionsAlike x (slice_get fs g) (slice_get fs' g)) where
+  abbrev source : Core
+  source = with_functions p fs
+
+  abbrev weave : Core
+  weave = with_functions p fs'
+
+  runs : (input : List ℕ) (k : ℕ) → Woven x (run source input k) (run weave input k)
+  runs input k = run_woven x k p fs fs' same input
+
+  -- the verdicts of the one monitor
+  judged : (input : List ℕ) (k n j : ℕ) → j ≡ 1 → AreSafe j (verdicts_before n (run weave input k)) ↔ NeverWrites x (take n (steps (run source input k)))
+  judged input k n j first =
+      ((λ safe. law.judged_to x n _ _ (runs input k) (subst (λ i. AreSafe i (verdicts_before n (run weave input k))) first safe)),
+       (λ never. subst (λ i. AreSafe i (verdicts_before n (run weave input k))) (sym first) (law.judged_from x n _ _ (runs input k) never)))
+
+  pub simulated : (name : List ℕ) → Simulates source weave 1 no_automaton (λ j ss. meets (Some (record { name = name; variable = x })) ss) (λ j ss. ⊥)
+  simulated name = record {
+    same_end = λ input k. law.same_end x _ _ (runs input k);
+    same_steps = λ input k. law.same_erased source weave (λ g. law.same_name x _ _ (same g)) x _ _ (runs input k);
+    judged = λ input k n j is within. judged input k n j (omega (arith, is.from_one, is.to_last));
+    accepted = λ input k j v is automaton ends. absurd (false_is_not_true automaton);
+    no_accept = λ input k j is automaton. law.without_accept x j _ _ (runs input k);
+    theirs = λ input k. law.of_one_monitor x _ _ (runs input k);
+  }
+
+  -- the source itself simulates itself, with no monitor
+  pub unwoven : Simulates source source 0 no_automaton (λ j ss. meets None ss) (λ j ss. ⊥)
+  unwoven = record {
+    same_end = λ input k. refl;
+    same_steps = λ input k. refl;
+    judged = λ input k n j is within. absurd (no_monitor j is);
+    accepted = λ input k j v is automaton ends. absurd (no_monitor j is);
+    no_accept = λ input k j is automaton. absurd (no_monitor j is);
+    theirs = λ input k. subst (λ vs. AllByRecursion (λ v. IsMonitor 0 v.monitor) vs) (sym (law.silent_source x _ _ (runs input k))) tt;
+  }
+
+-- the woven program of a program with these parts
+pub of_parts : (globals : List (List ℕ)) (property : Option Property) (fs : List Function) → BodiesFit mode.Source (length globals) 0 fs
+    → SimulatesFirst (record { globals = globals; property = property; functions = fs }) (first_core (woven (record { globals = globals; property = property; functions = fs })))
+of_parts globals None fs fits =
+    let p : Program = record { globals = globals; property = None; functions = fs } in
+    unwoven 0 (first_core p) (getchar ∷ putchar ∷ core_functions fs) (getchar ∷ putchar ∷ core_functions (map (property_function 0) fs)) (all_alike 0 (length globals) fs fits)
+of_parts globals (Some m) fs fits =
+    let p : Program = record { globals = globals; property = Some m; functions = fs } in
+    let after = map (property_function m.variable) fs in
+    let simulated = simulated m.variable (first_core p) (getchar ∷ putchar ∷ core_functions fs) (getchar ∷ putchar ∷ core_functions after) (all_alike m.variable (length globals) fs fits) m.name in
+    subst (λ n. SimulatesFirst p (record (first_core (woven p)) { start = suc n })) (sym (length-map fs (property_function m.variable))) simulated
+
+-- the headline for the first form
+pub woven_simulates : (p : Program) → IsFirstForm mode.Source p → SimulatesFirst p (first_core (woven p))
+woven_simulates p form = of_parts p.globals p.property p.functions form.bodies
