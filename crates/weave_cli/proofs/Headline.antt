@@ -13,7 +13,7 @@ use Rattle.c_parser.specs.FirstForm.{BodiesFit, IsFirstForm}
 use Rattle.weave_cli.specs.FirstCore.{core_functions, getchar, putchar, first_core}
 use Rattle.weave_cli.specs.Weaving.{property_function, woven}
 use Rattle.weave_cli.specs.Simulation.{verdicts, verdicts_before, AreSafe, HasNoAccept, IsMonitor, Simulates}
-use Rattle.weave_cli.specs.FirstTask.{NeverWrites, no_automaton, meets, monitor_count, SimulatesFirst}
+use Rattle.weave_cli.specs.FirstTask.{NeverWrites, no_automaton, meets, monitor_count, SimulatesTask, first_task}
 use Rattle.weave_cli.proofs.WovenTraces.{Woven}
 use Rattle.weave_cli.proofs.WovenRuns.{FunctionsAlike, all_alike, with_functions, run_woven}
 use Rattle.weave_cli.proofs.WovenSimulates as law
@@ -41,8 +41,8 @@ module _ (x : ℕ) (p : Core) (fs fs' : List CoreFunction) (same : (g : ℕ) →
       ((λ safe. law.judged_to x n _ _ (runs input k) (subst (λ i. AreSafe i (verdicts_before n (run weave input k))) first safe)),
        (λ never. subst (λ i. AreSafe i (verdicts_before n (run weave input k))) (sym first) (law.judged_from x n _ _ (runs input k) never)))
 
-  pub simulated : (name : List ℕ) → Simulates source weave 1 no_automaton (λ j ss. meets (Some (record { name = name; variable = x })) ss) (λ j ss. ⊥)
-  simulated name = record {
+  pub simulated : Simulates source weave 1 no_automaton (λ j ss. meets (Some x) ss) (λ j ss. ⊥)
+  simulated = record {
     same_end = λ input k. law.same_end x _ _ (runs input k);
     same_steps = λ input k. law.same_erased source weave (λ g. law.same_name x _ _ (same g)) x _ _ (runs input k);
     judged = λ input k n j is within. judged input k n j (omega (arith, is.from_one, is.to_last));
@@ -64,16 +64,16 @@ module _ (x : ℕ) (p : Core) (fs fs' : List CoreFunction) (same : (g : ℕ) →
 
 -- the woven program of a program with these parts
 pub of_parts : (globals : List (List ℕ)) (property : Option Property) (fs : List Function) → BodiesFit mode.Source (length globals) 0 fs
-    → SimulatesFirst (record { globals = globals; property = property; functions = fs }) (first_core (woven (record { globals = globals; property = property; functions = fs })))
+    → SimulatesTask (first_task (record { globals = globals; property = property; functions = fs })) (first_core (woven (record { globals = globals; property = property; functions = fs })))
 of_parts globals None fs fits =
     let p : Program = record { globals = globals; property = None; functions = fs } in
     unwoven 0 (first_core p) (getchar ∷ putchar ∷ core_functions fs) (getchar ∷ putchar ∷ core_functions (map (property_function 0) fs)) (all_alike 0 (length globals) fs fits)
 of_parts globals (Some m) fs fits =
     let p : Program = record { globals = globals; property = Some m; functions = fs } in
     let after = map (property_function m.variable) fs in
-    let simulated = simulated m.variable (first_core p) (getchar ∷ putchar ∷ core_functions fs) (getchar ∷ putchar ∷ core_functions after) (all_alike m.variable (length globals) fs fits) m.name in
-    subst (λ n. SimulatesFirst p (record (first_core (woven p)) { start = suc n })) (sym (length-map fs (property_function m.variable))) simulated
+    let simulated = simulated m.variable (first_core p) (getchar ∷ putchar ∷ core_functions fs) (getchar ∷ putchar ∷ core_functions after) (all_alike m.variable (length globals) fs fits) in
+    subst (λ n. SimulatesTask (first_task p) (record (first_core (woven p)) { start = suc n })) (sym (length-map fs (property_function m.variable))) simulated
 
 -- the headline for the first form
-pub woven_simulates : (p : Program) → IsFirstForm mode.Source p → SimulatesFirst p (first_core (woven p))
+pub woven_simulates : (p : Program) → IsFirstForm mode.Source p → SimulatesTask (first_task p) (first_core (woven p))
 woven_simulates p form = of_parts p.globals p.property p.functions form.bodies

@@ -1,5 +1,6 @@
 -- The task of a source of the first form: its core, and its property where it has one.
 use Rattle.std.specs.Prelude.{◌≡◌, ℕ, Bool, false, List, Option, Some, None}
+use Rattle.std.specs.Option.{option_map}
 use Rattle.std.specs.List.{AllByRecursion}
 use Rattle.step_meaning.specs.declared.value.Value.{Value}
 use Rattle.step_meaning.specs.declared.value.Value.TheVariants as value
@@ -8,7 +9,9 @@ use Rattle.step_meaning.specs.declared.value.Action.{Action}
 use Rattle.step_meaning.specs.declared.value.Action.TheVariants as act
 use Rattle.step_meaning.specs.declared.program.Core.{Core}
 use Rattle.step_meaning.specs.Steps.{Step}
-use Rattle.c_parser.specs.Program.{Property, Program}
+use Rattle.c_parser.specs.declared.tree.Mode.TheVariants as mode
+use Rattle.c_parser.specs.Program.{Program}
+use Rattle.c_parser.specs.FirstForm.{IsTextOf}
 use Rattle.weave_cli.specs.FirstCore.{first_core}
 use Rattle.weave_cli.specs.Simulation.{Simulates}
 
@@ -26,17 +29,46 @@ Writes x _ = ⊥
 abbrev pub NeverWrites : ℕ → List Step → Type 0
 NeverWrites x steps = AllByRecursion (λ s. Writes x s.action → ⊥) steps
 
-abbrev pub monitor_count : Option Property → ℕ
-monitor_count None = 0
-monitor_count (Some p) = 1
+-- the core of a source, and the variable of its property where it has one
+pub record Task : Type 0 where
+  pub core : Core
+  pub property : Option ℕ
 
-abbrev pub meets : Option Property → List Step → Type 0
+abbrev pub first_task : Program → Task
+first_task p = record { core = first_core p; property = option_map (λ m. m.variable) p.property }
+
+abbrev pub monitor_count : Option ℕ → ℕ
+monitor_count None = 0
+monitor_count (Some x) = 1
+
+-- the steps meet the property
+abbrev pub meets : Option ℕ → List Step → Type 0
 meets None steps = Unit {0}
-meets (Some p) steps = NeverWrites p.variable steps
+meets (Some x) steps = NeverWrites x steps
 
 abbrev pub no_automaton : ℕ → Bool
 no_automaton j = false
 
--- the core simulates the source, and its assertions judge the source's property
-abbrev pub SimulatesFirst : Program → Core → Type 0
-SimulatesFirst p q = Simulates (first_core p) q (monitor_count p.property) no_automaton (λ j steps. meets p.property steps) (λ j steps. ⊥)
+-- the core simulates that of the task, and its assertions judge the task's property
+abbrev pub SimulatesTask : Task → Core → Type 0
+SimulatesTask t q = Simulates t.core q (monitor_count t.property) no_automaton (λ j steps. meets t.property steps) (λ j steps. ⊥)
+
+-- the source is of the first form, and this is its task
+pub record IsTaskOf (source : List ℕ) (t : Task) : Type 0 where
+  pub program : Program
+  pub spelled : IsTextOf mode.Source source program
+  pub task : t ≡ first_task program
+
+-- the text is of the woven first form, and this is its core
+pub record IsCoreOf (text : List ℕ) (q : Core) : Type 0 where
+  pub program : Program
+  pub spelled : IsTextOf mode.Woven text program
+  pub core : q ≡ first_core program
+
+-- the text is of the woven first form, and its core simulates the source's task
+pub record IsWeavingOf (source text : List ℕ) : Type 0 where
+  pub task : Task
+  pub core : Core
+  pub of_source : IsTaskOf source task
+  pub of_text : IsCoreOf text core
+  pub simulates : SimulatesTask task core
