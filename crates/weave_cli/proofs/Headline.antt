@@ -9,11 +9,12 @@ use Rattle.step_meaning.specs.Steps.{Step, Verdict, Trace, steps, end}
 use Rattle.step_meaning.specs.Runs.{run}
 use Rattle.c_parser.specs.declared.tree.Mode.TheVariants as mode
 use Rattle.c_parser.specs.Program.{Function, Property, Program}
-use Rattle.c_parser.specs.FirstForm.{BodiesFit, IsFirstForm}
+use Rattle.c_parser.specs.FirstForm.{BodiesFit, IsFirstForm, IsTextOf}
 use Rattle.weave_cli.specs.FirstCore.{core_functions, getchar, putchar, first_core}
 use Rattle.weave_cli.specs.Weaving.{property_function, woven}
 use Rattle.weave_cli.specs.Simulation.{verdicts, verdicts_before, AreSafe, HasNoAccept, IsMonitor, Simulates}
-use Rattle.weave_cli.specs.FirstTask.{NeverWrites, no_automaton, meets, monitor_count, SimulatesTask, first_task}
+use Rattle.weave_cli.specs.FirstTask.{NeverWrites, no_automaton, meets, monitor_count, SimulatesTask, first_task, IsWeavingOf}
+use Rattle.weave_cli.specs.Answers.{IsWovenText}
 use Rattle.weave_cli.proofs.WovenTraces.{Woven}
 use Rattle.weave_cli.proofs.WovenRuns.{FunctionsAlike, all_alike, with_functions, run_woven}
 use Rattle.weave_cli.proofs.WovenSimulates as law
@@ -77,3 +78,16 @@ of_parts globals (Some m) fs fits =
 -- the headline for the first form
 pub woven_simulates : (p : Program) → IsFirstForm mode.Source p → SimulatesTask (first_task p) (first_core (woven p))
 woven_simulates p form = of_parts p.globals p.property p.functions form.bodies
+
+-- what the layout gives of the woven program is a weaving of the source
+pub weaving_of : (source text : List ℕ) → IsWovenText source text → IsWeavingOf source text
+weaving_of source text w =
+    let p : Program = w.program in
+    let form : IsFirstForm mode.Source p = w.spelled.spelled.form in
+    record {
+      task = first_task p;
+      core = first_core (woven p);
+      of_source = record { program = p; spelled = w.spelled; task = refl };
+      of_text = record { program = woven p; spelled = subst (λ t. IsTextOf mode.Woven t (woven p)) (sym w.laid_out) ?; core = refl };
+      simulates = woven_simulates p form;
+    }

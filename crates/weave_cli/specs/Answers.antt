@@ -7,6 +7,7 @@ use Rattle.weave_base.specs.Contents.{File, bytes_of}
 use Rattle.c_parser.specs.declared.tree.Mode.TheVariants as mode
 use Rattle.c_parser.specs.Program.{Program}
 use Rattle.c_parser.specs.FirstForm.{IsTextOf}
+use Rattle.weave_cli.specs.FirstTask.{IsWeavingOf}
 use Rattle.weave_cli.specs.Weaving.{woven}
 use Rattle.weave_cli.specs.Layout.{program_text}
 use Rattle.weave_cli.specs.Commands.{weave_file, usage_line, refusal_line, no_place}
@@ -78,7 +79,7 @@ pub data Answers (words : List (List ℕ)) (files : Input) (out err : Output) : 
   -- the file breaks a rule
   refusal : {s : Status} (file text : List ℕ) (code : ℕ) → weave_file words ≡ Some file → IsTextOfFile files file text → Breaks text code
       → IsSame out → Told (refusal_line code file no_place) status.Refused err s → Answers words files out err s
-  -- the file is of the first form
-  woven_text : {s : Status} (file text written : List ℕ) → weave_file words ≡ Some file → IsTextOfFile files file text → length text ≤ 262144 → IsWovenText text written
+  -- the file is of the first form: the output gains a text of the woven first form whose core simulates the file's program and judges its property
+  woven_text : {s : Status} (file text written : List ℕ) → weave_file words ≡ Some file → IsTextOfFile files file text → length text ≤ 262144 → IsWeavingOf text written
       → IsSame err → Told written status.Done out s → Answers words files out err s
   memory : IsSame out → IsSame err → Answers words files out err status.NoMemory

@@ -1,7 +1,7 @@
 pub mod Commands
 pub mod Weaving
 pub mod Layout
-pub mod Answers
 pub mod FirstCore
 pub mod Simulation
 pub mod FirstTask
+pub mod Answers

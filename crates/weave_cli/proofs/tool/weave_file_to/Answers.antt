@@ -1,6 +1,7 @@
 use Rattle.std.proofs.Common.{◌≤◌, length, refl, ap, Some, Err, ◌∙◌, sym, subst}
 use Rattle.weave_cli.specs.Answers.{IsWovenText, unread, refusal, woven_text, memory, too_long, other_form}
 use Rattle.weave_cli.proofs.AnswerLaws.{long_text}
+use Rattle.weave_cli.proofs.Headline.{weaving_of}
 use Rattle.weave_cli.proofs.tool.weave_file_to.Goals as goal
 
 pub returns-in-Err-Failed-clause-answers : goal.returns-in-Err-Failed-clause-answers
@@ -23,7 +24,7 @@ returns-in-Ok-Some-clause-answers g c = λ words w.
     woven_text c.args.file.now c.deref.result.now c.deref-in-Ok-Some.result.now w
     (λ files h. (c.in-Ok.ensures.loaded files h).0 ∙ ap Some (sym c.deref.ensures.value))
     (subst (λ t. length t ≤ 262144) (sym c.deref.ensures.value) c.in-Ok.ensures.bounded)
-    (subst (λ t. IsWovenText c.deref.result.now t) (sym c.deref-in-Ok-Some.ensures.value) found)
+    (weaving_of _ _ (subst (λ t. IsWovenText c.deref.result.now t) (sym c.deref-in-Ok-Some.ensures.value) found))
     refl c.tell.ensures.told
 
 pub returns-in-Ok-None-clause-answers : goal.returns-in-Ok-None-clause-answers
