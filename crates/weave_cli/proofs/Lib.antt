@@ -6,3 +6,7 @@ pub mod Marks
 pub mod Numerals
 pub mod Pieces
 pub mod Bodies
+pub mod Functions
+pub mod ReadsBack
+pub mod WovenForm
+pub mod WovenText
