@@ -1,6 +1,6 @@
 -- Integers (C11 6.2.5, 6.2.6.2, 6.3.1.3, 6.5.3.3, 6.5.5 to 6.5.12): the range of each kind, conversion, and each operator with its faults.
 -- A value is a whole number. Widths are those of LP64, plain `char` is signed, and signed integers have two's complement.
-use Rattle.std.specs.Prelude.{ℕ, zero, ◌-◌, ◌*◌, ◌%◌, ◌/◌, ◌^◌, Bool, true, false, ◌&&◌, not, if◌then◌else◌, nat_lt, ℤ, pos, negsuc, ◌+ℤ◌, ◌-ℤ◌, ◌*ℤ◌, neg_ℤ, int_lt, int_le, int_div, int_rem, bit_and, bit_or, bit_xor, Result, Ok, Err}
+use Rattle.std.specs.Prelude.{ℕ, zero, ◌-◌, ◌*◌, ◌%◌, ◌/◌, ◌^◌, Bool, true, false, ◌&&◌, not, if◌then◌else◌, nat_lt, ℤ, pos, negsuc, ◌+ℤ◌, ◌-ℤ◌, ◌*ℤ◌, int_lt, int_le, int_div, int_rem, bit_and, bit_or, bit_xor, Result, Ok, Err}
 use Rattle.step_meaning.specs.declared.value.IntKind.{IntKind}
 use Rattle.step_meaning.specs.declared.value.IntKind.TheVariants as kind
 use Rattle.step_meaning.specs.declared.value.RunFault.{RunFault}
@@ -109,8 +109,8 @@ binary_of op.Xor k a b = on_bits bit_xor k a b
 
 -- C11 6.5.3.3
 abbrev pub unary_of : UnaryOp → IntKind → ℤ → Checked ℤ
-unary_of unary.Neg k a = in_kind k (neg_ℤ a)
-unary_of unary.Invert k a = Ok (converted k (neg_ℤ a -ℤ pos 1))
+unary_of unary.Neg k a = in_kind k (pos 0 -ℤ a)
+unary_of unary.Invert k a = Ok (converted k ((pos 0 -ℤ a) -ℤ pos 1))
 
 -- C11 6.5.8, 6.5.9
 abbrev pub compared_integers : CompareOp → ℤ → ℤ → Bool
