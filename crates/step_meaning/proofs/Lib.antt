@@ -4,3 +4,5 @@ pub mod Bounds
 pub mod FirstSteps
 pub mod Examples
 pub mod Outcomes
+pub mod Truths
+pub mod EdgeCases
