@@ -6,3 +6,4 @@ pub mod Examples
 pub mod Outcomes
 pub mod Truths
 pub mod EdgeCases
+pub mod Products

@@ -66,10 +66,13 @@ Checked A = Result A RunFault
 abbrev pub in_kind : IntKind → ℤ → Checked ℤ
 in_kind k z = if is_signed k then (if is_in_range k z then Ok z else Err fault.Overflow) else Ok (converted k z)
 
+abbrev pub is_zero : ℤ → Bool
+is_zero (pos zero) = true
+is_zero _ = false
+
 -- the quotient or remainder by this divisor (C11 6.5.5, 5)
 abbrev pub with_divisor : ℤ → Checked ℤ → Checked ℤ
-with_divisor (pos zero) r = Err fault.ZeroDivisor
-with_divisor _ r = r
+with_divisor d r = if is_zero d then Err fault.ZeroDivisor else r
 
 -- the least value divided by -1 has a quotient outside its type, and so no remainder either (C11 6.5.5, 6)
 abbrev pub remainder : IntKind → ℤ → ℤ → Checked ℤ
@@ -121,10 +124,6 @@ compared_integers comparing.LessEqual a b = int_le a b
 compared_integers comparing.Greater a b = int_lt b a
 compared_integers comparing.GreaterEqual a b = int_le b a
 
-abbrev pub is_zero : ℤ → Bool
-is_zero (pos zero) = true
-is_zero _ = false
-
 -- the kinds in which operators compute, after the promotions (C11 6.3.1.1, 2)
 abbrev pub IsPromoted : IntKind → Type 0
 IsPromoted kind.Int = Unit {0}
@@ -132,3 +131,9 @@ IsPromoted kind.UInt = Unit {0}
 IsPromoted kind.Long = Unit {0}
 IsPromoted kind.ULong = Unit {0}
 IsPromoted _ = ⊥
+
+-- what a shift count may be: a value of any kind. The right operand of another operator has the operator's kind
+abbrev pub is_right_operand : IntOp → IntKind → ℤ → Bool
+is_right_operand op.Shl k b = int_le (least kind.Long) b && int_le b (greatest kind.ULong)
+is_right_operand op.Shr k b = int_le (least kind.Long) b && int_le b (greatest kind.ULong)
+is_right_operand _ k b = is_in_range k b

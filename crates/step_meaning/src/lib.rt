@@ -13,7 +13,7 @@ mod view;
 
 pub use expr::{Answer, CompareOp, Expr, IntOp, Place_, Side, UnaryOp, UpdateOp, Variable};
 pub use laws::{flows_agree, outcome_is_computed, same_first_steps};
-pub use operations::{convert, int_unary, pointer_add};
+pub use operations::{convert, int_binary, int_unary, pointer_add, pointer_diff};
 pub use predicate::{Event, EventKind, Location, Predicate, Term, TermPlace};
 pub use program::{Core, Declared, Function, HookPlace, HookPoint, Hooks, Layout};
 pub use stmt::{GhostStmt, Stmt, VerdictKind};
