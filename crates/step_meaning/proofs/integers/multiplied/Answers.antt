@@ -1,7 +1,7 @@
 use Rattle.std.proofs.Common.{◌≡◌, ◌^◌, ◌-◌, ◌<◌, ◌*ℤ◌, ℤ, ap, ◌∙◌, arith, to_z, of_z}
 use Rattle.std.proofs.lemmas.Int.{to_z-of_z, fits_signed_mul}
 use mir.Syntax.{w128}
-use Rattle.step_meaning.proofs.operations.multiplied.Goals as goal
+use Rattle.step_meaning.proofs.integers.multiplied.Goals as goal
 
 pub returns : goal.returns
 returns c =
