@@ -7,3 +7,4 @@ pub mod Outcomes
 pub mod Truths
 pub mod EdgeCases
 pub mod Products
+pub mod TracedExamples

@@ -1,12 +1,11 @@
 -- Products of unsigned kinds.
-use Rattle.std.proofs.Common.{◌≡◌, ℕ, ◌*◌, Bool, false, cond, Result, Ok, sym, ap, ◌∙◌}
+use Rattle.std.proofs.Common.{◌≡◌, ℕ, ◌*◌, false, cond, Ok, sym, ap, ◌∙◌}
 use Rattle.std.specs.Prelude.{ℤ, pos, ◌*ℤ◌}
 use Rattle.std.proofs.Math.IntN.{pos-*ℤ-pos}
 use Rattle.step_meaning.specs.declared.value.IntKind.{IntKind}
-use Rattle.step_meaning.specs.declared.value.RunFault.{RunFault}
-use Rattle.step_meaning.specs.Numbers.{is_signed, converted, in_kind, is_in_range, Checked}
+use Rattle.step_meaning.specs.Numbers.{is_signed, converted, in_kind, is_in_range}
 use Rattle.step_meaning.specs.declared.value.RunFault.TheVariants as fault
-use Rattle.std.specs.Prelude.{Err, if◌then◌else◌}
+use Rattle.std.specs.Prelude.{Err}
 
 pub unsigned_in_kind : (k : IntKind) (x y : ℕ) (a b : ℤ) → is_signed k ≡ false → pos x ≡ a → pos y ≡ b → in_kind k (a *ℤ b) ≡ Ok (converted k (pos (x * y)))
 unsigned_in_kind k x y a b e ea eb =

@@ -1,4 +1,4 @@
-use Rattle.std.proofs.Common.{◌≡◌, ◌^◌, ◌-◌, ◌<◌, ◌*ℤ◌, ℤ, ap, ◌∙◌, arith, to_z, of_z}
+use Rattle.std.proofs.Common.{◌^◌, ◌-◌, ◌*ℤ◌, ap, ◌∙◌, arith, to_z, of_z}
 use Rattle.std.proofs.lemmas.Int.{to_z-of_z, fits_signed_mul}
 use mir.Syntax.{w128}
 use Rattle.step_meaning.proofs.integers.multiplied.Goals as goal
