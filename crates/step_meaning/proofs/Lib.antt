@@ -8,3 +8,4 @@ pub mod Truths
 pub mod EdgeCases
 pub mod Products
 pub mod TracedExamples
+pub mod Frames
