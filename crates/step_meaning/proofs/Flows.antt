@@ -36,7 +36,7 @@ use Rattle.step_meaning.specs.Statements as sm
 use Rattle.step_meaning.specs.Statements.{Completion, Next, Broken, Continued, Returned}
 use Rattle.step_meaning.specs.Calls as ca
 use Rattle.step_meaning.specs.Calls.{annotations, after_annotations}
-use Rattle.step_meaning.specs.Runs.{run, direct_run, told_by, start_state, start_world, exit_of, trace_of}
+use Rattle.step_meaning.specs.Runs.{run, direct_run, logged_by, start_state, start_world, exit_of, trace_of}
 use Rattle.step_meaning.proofs.Tells.{rest_after_call, Tells, CallTells, tells_bind, tells_then, tells_pure, tells_stop, tells_get, tells_put_memory, tells_put_ghosts, tells_put_input, tells_put_made, tells_registers, tells_put_registers, tells_judge, tells_halt, tells_misuse, tells_cond, tells_emit, call_tells_alone, tells_through}
 
 module _ (here : Here) where
@@ -270,10 +270,10 @@ module _ (q : Core) (k : ℕ) where
   tells_calls zero g vs = call_tells_alone [] (tells_stop More)
   tells_calls (suc depth) g vs = tells_call_of (ca.calls resting q k depth) (ca.calls direct q k depth) (tells_calls depth) g (slice_get q.functions g) vs
 
-after_exit : (b : CallGives) → rest_after_call b (λ v s. Stop (exit_of v)) ≡ trace_of (told_by b)
+after_exit : (b : CallGives) → rest_after_call b (λ v s. Stop (exit_of v)) ≡ trace_of (logged_by b)
 after_exit (ReturnedCall v w) = refl
 after_exit (Ended e l) = refl
 
 -- for every core, input and bound
-pub run_told : (q : Core) (input : List ℕ) (k : ℕ) → run q input k ≡ trace_of (direct_run q input k)
-run_told q input k = (tells_calls q k k q.start []).by (λ v s. Stop (exit_of v)) (start_world (start_state q input)) ∙ after_exit (ca.calls direct q k k q.start [] (start_world (start_state q input)))
+pub run_logged : (q : Core) (input : List ℕ) (k : ℕ) → run q input k ≡ trace_of (direct_run q input k)
+run_logged q input k = (tells_calls q k k q.start []).by (λ v s. Stop (exit_of v)) (start_world (start_state q input)) ∙ after_exit (ca.calls direct q k k q.start [] (start_world (start_state q input)))

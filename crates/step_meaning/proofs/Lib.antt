@@ -4,3 +4,8 @@ pub mod Bounds
 pub mod FirstSteps
 pub mod Examples
 pub mod Outcomes
+pub mod Truths
+pub mod EdgeCases
+pub mod Products
+pub mod TracedExamples
+pub mod Frames

@@ -1,5 +1,5 @@
 -- The operations that the meaning of a program is written in. The meaning is one text over a record of them, `Flow`, which has two instances.
--- `resting` is the definition: a run computes in it, so that what small programs do is shown by computing. `direct` serves proofs: what a part of a program gives is data there. That the two tell the same run is a law.
+-- `resting` is the definition: a run computes in it, so that what small programs do is shown by computing. `direct` serves proofs: what a part of a program gives is data there. That the two give the same run is a law.
 use Rattle.std.specs.Prelude.{ℕ, Bool, List, ◌∷◌}
 use Rattle.step_meaning.specs.declared.value.Value.{Value}
 use Rattle.step_meaning.specs.declared.value.Action.{Action}

@@ -1,6 +1,6 @@
 -- Integers (C11 6.2.5, 6.2.6.2, 6.3.1.3, 6.5.3.3, 6.5.5 to 6.5.12): the range of each kind, conversion, and each operator with its faults.
 -- A value is a whole number. Widths are those of LP64, plain `char` is signed, and signed integers have two's complement.
-use Rattle.std.specs.Prelude.{ℕ, zero, ◌-◌, ◌*◌, ◌%◌, ◌/◌, ◌^◌, Bool, true, false, ◌&&◌, not, if◌then◌else◌, nat_lt, ℤ, pos, negsuc, ◌+ℤ◌, ◌-ℤ◌, ◌*ℤ◌, neg_ℤ, int_lt, int_le, int_div, int_rem, bit_and, bit_or, bit_xor, Result, Ok, Err}
+use Rattle.std.specs.Prelude.{ℕ, zero, ◌-◌, ◌*◌, ◌%◌, ◌/◌, ◌^◌, Bool, true, false, ◌&&◌, not, if◌then◌else◌, nat_lt, ℤ, pos, negsuc, ◌+ℤ◌, ◌-ℤ◌, ◌*ℤ◌, int_lt, int_le, int_div, int_rem, bit_and, bit_or, bit_xor, Result, Ok, Err}
 use Rattle.step_meaning.specs.declared.value.IntKind.{IntKind}
 use Rattle.step_meaning.specs.declared.value.IntKind.TheVariants as kind
 use Rattle.step_meaning.specs.declared.value.RunFault.{RunFault}
@@ -66,10 +66,13 @@ Checked A = Result A RunFault
 abbrev pub in_kind : IntKind → ℤ → Checked ℤ
 in_kind k z = if is_signed k then (if is_in_range k z then Ok z else Err fault.Overflow) else Ok (converted k z)
 
+abbrev pub is_zero : ℤ → Bool
+is_zero (pos zero) = true
+is_zero _ = false
+
 -- the quotient or remainder by this divisor (C11 6.5.5, 5)
 abbrev pub with_divisor : ℤ → Checked ℤ → Checked ℤ
-with_divisor (pos zero) r = Err fault.ZeroDivisor
-with_divisor _ r = r
+with_divisor d r = if is_zero d then Err fault.ZeroDivisor else r
 
 -- the least value divided by -1 has a quotient outside its type, and so no remainder either (C11 6.5.5, 6)
 abbrev pub remainder : IntKind → ℤ → ℤ → Checked ℤ
@@ -109,8 +112,8 @@ binary_of op.Xor k a b = on_bits bit_xor k a b
 
 -- C11 6.5.3.3
 abbrev pub unary_of : UnaryOp → IntKind → ℤ → Checked ℤ
-unary_of unary.Neg k a = in_kind k (neg_ℤ a)
-unary_of unary.Invert k a = Ok (converted k (neg_ℤ a -ℤ pos 1))
+unary_of unary.Neg k a = in_kind k (pos 0 -ℤ a)
+unary_of unary.Invert k a = Ok (converted k ((pos 0 -ℤ a) -ℤ pos 1))
 
 -- C11 6.5.8, 6.5.9
 abbrev pub compared_integers : CompareOp → ℤ → ℤ → Bool
@@ -121,10 +124,6 @@ compared_integers comparing.LessEqual a b = int_le a b
 compared_integers comparing.Greater a b = int_lt b a
 compared_integers comparing.GreaterEqual a b = int_le b a
 
-abbrev pub is_zero : ℤ → Bool
-is_zero (pos zero) = true
-is_zero _ = false
-
 -- the kinds in which operators compute, after the promotions (C11 6.3.1.1, 2)
 abbrev pub IsPromoted : IntKind → Type 0
 IsPromoted kind.Int = Unit {0}
@@ -132,3 +131,9 @@ IsPromoted kind.UInt = Unit {0}
 IsPromoted kind.Long = Unit {0}
 IsPromoted kind.ULong = Unit {0}
 IsPromoted _ = ⊥
+
+-- what a shift count may be: a value of any kind. The right operand of another operator has the operator's kind
+abbrev pub is_right_operand : IntOp → IntKind → ℤ → Bool
+is_right_operand op.Shl k b = int_le (least kind.Long) b && int_le b (greatest kind.ULong)
+is_right_operand op.Shr k b = int_le (least kind.Long) b && int_le b (greatest kind.ULong)
+is_right_operand _ k b = is_in_range k b

@@ -47,31 +47,31 @@ exit_of _ = Fault fault.Invalid
 abbrev pub run : Core → List ℕ → ℕ → Trace
 run q input k = calls resting q k k q.start [] (λ v s. Stop (exit_of v)) (start_state q input)
 
--- ---- the same run, told with a log
+-- ---- the same run, with a log
 
 -- the items, the newest first, and the end
-pub record Told : Type 0 where
+pub record Logged : Type 0 where
   pub log : List Item
   pub ends : End
 
-abbrev pub told_by : CallGives → Told
-told_by (Returned v w) = record { log = w.log; ends = exit_of v }
-told_by (Ended e l) = record { log = l; ends = e }
+abbrev pub logged_by : CallGives → Logged
+logged_by (Returned v w) = record { log = w.log; ends = exit_of v }
+logged_by (Ended e l) = record { log = l; ends = e }
 
 abbrev pub start_world : State → World
 start_world s = record { memory = s.memory; ghosts = s.ghosts; input = s.input; made = s.made; log = [] }
 
-abbrev pub direct_run : Core → List ℕ → ℕ → Told
-direct_run q input k = told_by (calls direct q k k q.start [] (start_world (start_state q input)))
+abbrev pub direct_run : Core → List ℕ → ℕ → Logged
+direct_run q input k = logged_by (calls direct q k k q.start [] (start_world (start_state q input)))
 
 -- the trace that has these items, the newest first, before it
 abbrev pub after_log : List Item → Trace → Trace
 after_log [] t = t
 after_log (i ∷ l) t = after_log l (Then i t)
 
-abbrev pub trace_of : Told → Trace
+abbrev pub trace_of : Logged → Trace
 trace_of t = after_log t.log (Stop t.ends)
 
--- the two instances of the flow tell one run
+-- the two instances of the flow give one run
 abbrev pub FlowsAgree : Type 0
 FlowsAgree = (q : Core) (input : List ℕ) (k : ℕ) → run q input k ≡ trace_of (direct_run q input k)

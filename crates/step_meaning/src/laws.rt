@@ -7,7 +7,7 @@ pub fn same_first_steps()
     ensures { SameFirstSteps }
 {}
 
-/// A run told directly, with a log, is the run.
+/// The run with a log, which the direct instance of the flow gives, is the run.
 pub fn flows_agree()
     ensures { FlowsAgree }
 {}

@@ -2,7 +2,9 @@
 #![tactic(auto)]
 
 mod expr;
+mod integers;
 mod laws;
+mod pointers;
 mod predicate;
 mod program;
 mod stmt;
@@ -11,10 +13,15 @@ mod value;
 mod view;
 
 pub use expr::{Answer, CompareOp, Expr, IntOp, Place_, Side, UnaryOp, UpdateOp, Variable};
+pub use integers::{convert, int_binary, int_unary};
 pub use laws::{flows_agree, outcome_is_computed, same_first_steps};
+pub use pointers::{pointer_add, pointer_diff};
 pub use predicate::{Event, EventKind, Location, Predicate, Term, TermPlace};
 pub use program::{Core, Declared, Function, HookPlace, HookPoint, Hooks, Layout};
 pub use stmt::{GhostStmt, Stmt, VerdictKind};
 pub use text::Text;
 pub use value::{Action, CType, Cell, IntKind, Name, NameKind, RunFault, Value};
 pub use view::View;
+
+#[cfg(test)]
+mod tests;

@@ -1,5 +1,5 @@
-use Rattle.step_meaning.proofs.Flows.{run_told}
+use Rattle.step_meaning.proofs.Flows.{run_logged}
 use Rattle.step_meaning.proofs.laws.flows_agree.Goals as goal
 
 pub returns : goal.returns
-returns c = run_told
+returns c = run_logged
