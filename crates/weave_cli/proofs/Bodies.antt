@@ -1,23 +1,17 @@
 -- Statements, bodies and functions read as the words that the program writes.
-use Rattle.std.proofs.Common.{◌≡◌, ℕ, zero, suc, ◌+◌, ◌<◌, ◌≤◌, true, List, [], ◌∷◌, ◌++◌, length, get_or, map, refl, sym, ap, subst, ◌∙◌, append_assoc, arith}
+use Rattle.std.proofs.Common.{◌≡◌, ℕ, zero, suc, ◌<◌, ◌≤◌, true, List, [], ◌∷◌, ◌++◌, length, get_or, sym, subst, append_assoc, arith}
 use Rattle.std.specs.Prelude.{codes}
 use Rattle.std.specs.List.{AllByRecursion, flat_map}
 use Rattle.std.proofs.lemmas.List.{length-map}
 use Rattle.std.proofs.lemmas.Option.{unwrap_or-slice_get}
-use Rattle.c_lexer.specs.Bytes.{is_keyword, keywords}
-use Rattle.c_lexer.specs.FirstTokens.{is_decimal}
-use Rattle.c_lexer.proofs.TokenLemmas.{lead}
 use Rattle.c_parser.specs.declared.tree.Mode.{Mode}
-use Rattle.c_parser.specs.declared.tree.Mode.TheVariants as mode
 use Rattle.c_parser.specs.declared.tree.FirstStmt.{FirstStmt}
 use Rattle.c_parser.specs.declared.tree.FirstStmt.TheVariants as stmt
 use Rattle.c_parser.specs.Program.{Function, Program}
-use Rattle.c_parser.specs.Spelling.{Word, named, keyword, mark, number, name_at, names_of, declaration_words, statement_words, function_words, main_words, functions_words}
-use Rattle.c_parser.specs.FirstForm.{is_name, StatementFits, BodiesFit}
-use Rattle.weave_cli.specs.Layout.{declarations_text, statement_text, body_text, function_text, main_text, functions_text}
-use Rattle.weave_cli.proofs.Lexing.{Lexes, lexes_as, skip}
-use Rattle.weave_cli.proofs.Runs.{take_name, take_keyword, take_number}
-use Rattle.weave_cli.proofs.Marks.{take_mark}
+use Rattle.c_parser.specs.Spelling.{Word, name_at, names_of, declaration_words, statement_words}
+use Rattle.c_parser.specs.FirstForm.{is_name, StatementFits}
+use Rattle.weave_cli.specs.Layout.{declarations_text, statement_text, body_text}
+use Rattle.weave_cli.proofs.Lexing.{Lexes, lexes_as}
 use Rattle.weave_cli.proofs.Numerals.{signed_is_decimal}
 use Rattle.weave_cli.proofs.Pieces.{reshaped, declaration_reads, assignment_reads, call_reads, empty_reads, assertion_reads}
 

@@ -1,12 +1,11 @@
 -- The pieces of a program's text read as the words that the program writes.
-use Rattle.std.proofs.Common.{◌≡◌, ℕ, ℤ, true, List, [], ◌∷◌, ◌++◌, refl, sym, ap, subst, ◌∙◌, append_assoc}
+use Rattle.std.proofs.Common.{◌≡◌, ℕ, ℤ, true, List, ◌∷◌, ◌++◌, refl, sym, ap, subst, append_assoc}
 use Rattle.std.specs.Prelude.{codes}
 use Rattle.std.specs.Fmt.{signed_decimal}
 use Rattle.c_lexer.specs.Bytes.{is_keyword, keywords}
 use Rattle.c_lexer.specs.FirstTokens.{is_token, is_identifier, is_decimal}
 use Rattle.c_lexer.proofs.TokenLemmas.{lead}
-use Rattle.c_parser.specs.declared.tree.FirstStmt.TheVariants as stmt
-use Rattle.c_parser.specs.Spelling.{Word, named, keyword, mark, backslash, number, declaration_words}
+use Rattle.c_parser.specs.Spelling.{Word, named, mark, backslash, number, declaration_words}
 use Rattle.c_parser.specs.FirstForm.{is_name}
 use Rattle.weave_cli.specs.Layout.{declaration_text, assignment_text, call_text, assertion_head, assertion_text}
 use Rattle.weave_cli.proofs.Lexing.{Lexes, skip}

@@ -1,17 +1,17 @@
 -- The text of a program of the woven form stands for that program.
-use Rattle.std.proofs.Common.{◌≡◌, ℕ, ◌+◌, ◌≤◌, true, List, [], ◌∷◌, ◌++◌, length, Option, Some, None, map, refl, sym, ap, subst, ◌∙◌, append-nil, arith}
+use Rattle.std.proofs.Common.{◌≡◌, ℕ, true, List, [], ◌∷◌, ◌++◌, length, Option, Some, None, refl, sym, ap, subst, ◌∙◌, append-nil, arith}
 use Rattle.std.specs.Prelude.{codes}
 use Rattle.std.specs.List.{AllByRecursion, flat_map}
 use Rattle.std.proofs.lemmas.List.{map-append}
 use Rattle.c_lexer.specs.Bytes.{is_keyword, keywords}
-use Rattle.c_lexer.specs.FirstTokens.{is_token, is_identifier, AreTokensOf}
+use Rattle.c_lexer.specs.FirstTokens.{is_token, is_identifier}
 use Rattle.c_lexer.specs.Positions.{after}
 use Rattle.c_lexer.proofs.ListLemmas.{left}
 use Rattle.c_parser.specs.declared.tree.Mode.TheVariants as mode
 use Rattle.c_parser.specs.Program.{Function, Property, Program}
-use Rattle.c_parser.specs.Spelling.{Word, names_of, declaration_words, optional_property_words, functions_words, program_words}
-use Rattle.c_parser.specs.FirstForm.{is_name, is_free_name, PropertyFits, IsFirstForm, Spells, IsTextOf}
-use Rattle.weave_cli.specs.Layout.{declarations_text, functions_text, program_text}
+use Rattle.c_parser.specs.Spelling.{names_of, declaration_words, optional_property_words, functions_words, program_words}
+use Rattle.c_parser.specs.FirstForm.{is_name, is_free_name, PropertyFits, IsFirstForm, IsTextOf}
+use Rattle.weave_cli.specs.Layout.{functions_text, program_text}
 use Rattle.weave_cli.proofs.Lexing.{Lexes, LexedAfter, lexes_as, lexes_done}
 use Rattle.weave_cli.proofs.Pieces.{reshaped}
 use Rattle.weave_cli.proofs.Bodies.{AreNames, declarations_read}

@@ -1,5 +1,5 @@
 -- The text that weaving gives of a source stands for the woven program.
-use Rattle.std.proofs.Common.{◌≡◌, ℕ, List, sym, subst}
+use Rattle.std.proofs.Common.{ℕ, List, sym, subst}
 use Rattle.c_parser.specs.declared.tree.Mode.TheVariants as mode
 use Rattle.c_parser.specs.Program.{Program}
 use Rattle.c_parser.specs.FirstForm.{IsTextOf}
