@@ -9,7 +9,6 @@ pub mod Bodies
 pub mod Functions
 pub mod ReadsBack
 pub mod WovenForm
-pub mod WovenText
 pub mod WovenTraces
 pub mod WovenRuns
 pub mod WovenSimulates

@@ -1,6 +1,6 @@
 -- The runs of a source of the first form and of its woven program: functions, calls and whole runs.
-use Rattle.std.proofs.Common.{◌≡◌, ℕ, zero, suc, ◌+◌, ◌≤◌, Bool, true, false, List, [], ◌∷◌, ◌++◌, map, length, Option, Some, None, refl, sym, ap, subst, ◌∙◌, append-nil}
-use Rattle.std.specs.Prelude.{◌==◌, pos, ℤ, slice_get}
+use Rattle.std.proofs.Common.{◌≡◌, ℕ, zero, suc, ◌+◌, Bool, true, false, List, [], ◌∷◌, ◌++◌, map, Option, Some, None, refl, subst, append-nil}
+use Rattle.std.specs.Prelude.{◌==◌, pos, slice_get}
 use Rattle.std.specs.List.{AllByRecursion}
 use Rattle.step_meaning.specs.declared.value.CType.{CType}
 use Rattle.step_meaning.specs.declared.value.CType.TheVariants as type
@@ -10,20 +10,20 @@ use Rattle.step_meaning.specs.declared.value.Action.TheVariants as act
 use Rattle.step_meaning.specs.declared.stmt.Stmt.{Stmt}
 use Rattle.step_meaning.specs.declared.program.Function.{Function as CoreFunction}
 use Rattle.step_meaning.specs.declared.program.Core.{Core}
-use Rattle.step_meaning.specs.Steps.{Trace, Stop}
-use Rattle.step_meaning.specs.State.{State, Registers, Here}
+use Rattle.step_meaning.specs.Steps.{Trace}
+use Rattle.step_meaning.specs.State.{State, Here}
 use Rattle.step_meaning.specs.Flow.{Resting, RestingCall, resting}
 use Rattle.step_meaning.specs.Statements.{Completion, Next, Broken, Continued, Returned, exec_all}
-use Rattle.step_meaning.specs.Calls.{annotations, after_annotations, with_arguments, with_frame, given_back, close_frame, value_or_zero, activation, call_of, calls}
-use Rattle.step_meaning.specs.Runs.{run, start_state, exit_of}
+use Rattle.step_meaning.specs.Calls.{annotations, after_annotations, with_arguments, with_frame, given_back, close_frame, value_or_zero, call_of, calls}
+use Rattle.step_meaning.specs.Runs.{run}
 use Rattle.c_parser.specs.declared.tree.FirstStmt.{FirstStmt}
 use Rattle.c_parser.specs.declared.tree.FirstStmt.TheVariants as stmt
 use Rattle.c_parser.specs.declared.tree.Mode.TheVariants as mode
-use Rattle.c_parser.specs.Program.{Function, Program}
+use Rattle.c_parser.specs.Program.{Function}
 use Rattle.c_parser.specs.FirstForm.{StatementFits, BodiesFit}
-use Rattle.weave_cli.specs.FirstCore.{int, core_statements, return_zero, core_function, void_function, main_function, core_functions, getchar, putchar, first_core}
-use Rattle.weave_cli.specs.Weaving.{woven_statements, woven_body, property_function}
-use Rattle.weave_cli.proofs.WovenTraces.{IsQuiet, Woven, stops, quiet, Alike, CallsAlike, statements_alike, source_is_not_woven}
+use Rattle.weave_cli.specs.FirstCore.{int, core_statements, return_zero, core_function, void_function, core_functions, getchar, putchar}
+use Rattle.weave_cli.specs.Weaving.{woven_body, property_function}
+use Rattle.weave_cli.proofs.WovenTraces.{Woven, stops, quiet, Alike, CallsAlike, statements_alike, source_is_not_woven}
 
 -- ---- bodies
 
@@ -76,7 +76,7 @@ module _ (x : ℕ) (call call' : ℕ → List Value → RestingCall) (alike : Ca
   -- the annotations that begin the bodies, the Enter step, and what comes after
   entered : (g : ℕ) (vs : List Value) (an an' ss ss' : List Stmt) → an ≡ [] → an' ≡ [] → Alike x (source_all ss) (woven_all ss')
       → Alike x (resting.bind (source_all an) (λ c. resting.bind (resting.emit here (act.Enter g vs)) (λ u. source_all ss)))
-          (resting.bind (woven_all an') (λ c. resting.bind (resting.emit here (act.Enter g vs)) (λ u. woven_all ss')))
+      (resting.bind (woven_all an') (λ c. resting.bind (resting.emit here (act.Enter g vs)) (λ u. woven_all ss')))
   entered g vs [] [] ss ss' e e' h = record { by = λ rest rest' more s r. quiet _ tt (h.by rest rest' more s r) }
   entered g vs [] (a ∷ as') ss ss' e e' h = absurd cc
   entered g vs (a ∷ an) an' ss ss' e e' h = absurd cc
@@ -163,30 +163,30 @@ module _ (x k : ℕ) (p : Core) (fs fs' : List CoreFunction) (same : (g : ℕ) �
   void_body_alike : (call call' : ℕ → List Value → RestingCall) → CallsAlike x call call' → (g : ℕ) (name : List ℕ) (ss : List FirstStmt) (n e : ℕ) → AllByRecursion (StatementFits mode.Source n e) ss
       → (vs : List Value) (rest rest' : Value → State → Trace) → ((v : Value) (s : State) → Woven x (rest v s) (rest' v s)) → (s : State)
       → Woven x (call_of resting source k call g (Some (core_function name type.Void (core_statements ss ++ []))) vs rest s)
-          (call_of resting weave k call' g (Some (core_function name type.Void (core_statements (woven_body x ss) ++ []))) vs rest' s)
+      (call_of resting weave k call' g (Some (core_function name type.Void (core_statements (woven_body x ss) ++ []))) vs rest' s)
   void_body_alike call call' alike g name ss n e fits vs rest rest' more s =
       let here : Here = record { function = g; activation = s.made } in
       let b : List Stmt = core_statements ss ++ [] in
       let w : List Stmt = core_statements (woven_body x ss) ++ [] in
       (entered x call call' alike here k g vs (annotations b) (annotations w) (after_annotations b) (after_annotations w)
-          (source_begins x call call' alike here k n e ss [] nothing fits)
-          (woven_begins x call call' alike here k n e ss [] nothing fits)
-          (bodies_alike x call call' alike here k n e ss [] nothing fits)).by
-        _ _ (λ c s r. (leaves_void x call call' alike here k (g == p.start) g c).by (λ v s r. rest v s) (λ v s r. rest' v s) (λ v s r. more v s) s r) (opened vs s) []
+      (source_begins x call call' alike here k n e ss [] nothing fits)
+      (woven_begins x call call' alike here k n e ss [] nothing fits)
+      (bodies_alike x call call' alike here k n e ss [] nothing fits)).by
+      _ _ (λ c s r. (leaves_void x call call' alike here k (g == p.start) g c).by (λ v s r. rest v s) (λ v s r. rest' v s) (λ v s r. more v s) s r) (opened vs s) []
 
   main_body_alike : (call call' : ℕ → List Value → RestingCall) → CallsAlike x call call' → (g : ℕ) (name : List ℕ) (ss : List FirstStmt) (n e : ℕ) → AllByRecursion (StatementFits mode.Source n e) ss
       → (vs : List Value) (rest rest' : Value → State → Trace) → ((v : Value) (s : State) → Woven x (rest v s) (rest' v s)) → (s : State)
       → Woven x (call_of resting source k call g (Some (core_function name int (core_statements ss ++ return_zero ∷ []))) vs rest s)
-          (call_of resting weave k call' g (Some (core_function name int (core_statements (woven_body x ss) ++ return_zero ∷ []))) vs rest' s)
+      (call_of resting weave k call' g (Some (core_function name int (core_statements (woven_body x ss) ++ return_zero ∷ []))) vs rest' s)
   main_body_alike call call' alike g name ss n e fits vs rest rest' more s =
       let here : Here = record { function = g; activation = s.made } in
       let b : List Stmt = core_statements ss ++ return_zero ∷ [] in
       let w : List Stmt = core_statements (woven_body x ss) ++ return_zero ∷ [] in
       (entered x call call' alike here k g vs (annotations b) (annotations w) (after_annotations b) (after_annotations w)
-          (source_begins x call call' alike here k n e ss (return_zero ∷ []) returning fits)
-          (woven_begins x call call' alike here k n e ss (return_zero ∷ []) returning fits)
-          (bodies_alike x call call' alike here k n e ss (return_zero ∷ []) returning fits)).by
-        _ _ (λ c s r. (leaves_int x call call' alike here k (g == p.start) g c).by (λ v s r. rest v s) (λ v s r. rest' v s) (λ v s r. more v s) s r) (opened vs s) []
+      (source_begins x call call' alike here k n e ss (return_zero ∷ []) returning fits)
+      (woven_begins x call call' alike here k n e ss (return_zero ∷ []) returning fits)
+      (bodies_alike x call call' alike here k n e ss (return_zero ∷ []) returning fits)).by
+      _ _ (λ c s r. (leaves_int x call call' alike here k (g == p.start) g c).by (λ v s r. rest v s) (λ v s r. rest' v s) (λ v s r. more v s) s r) (opened vs s) []
 
   call_alike : (call call' : ℕ → List Value → RestingCall) → CallsAlike x call call' → (g : ℕ) (f f' : Option CoreFunction) → FunctionsAlike x f f'
       → (vs : List Value) (rest rest' : Value → State → Trace) → ((v : Value) (s : State) → Woven x (rest v s) (rest' v s)) → (s : State)

@@ -1,6 +1,6 @@
 -- A woven program of the first form simulates its source and judges the source's property.
-use Rattle.std.proofs.Common.{◌≡◌, ℕ, zero, suc, ◌≤◌, Bool, true, false, not, List, [], ◌∷◌, ◌++◌, map, length, take, Option, Some, None, refl, sym, ap, ap₂, subst, ◌∙◌, arith}
-use Rattle.std.specs.Prelude.{◌↔◌, ◌==◌, slice_get}
+use Rattle.std.proofs.Common.{◌≡◌, ℕ, zero, suc, Bool, true, false, not, List, [], ◌∷◌, take, Option, refl, sym, ap, ap₂, subst, ◌∙◌, arith}
+use Rattle.std.specs.Prelude.{◌==◌}
 use Rattle.std.specs.List.{AllByRecursion}
 use Rattle.std.proofs.lemmas.Bool.Decides.{nat_tests}
 use Rattle.step_meaning.specs.declared.value.Value.{Value}
@@ -9,8 +9,7 @@ use Rattle.step_meaning.specs.declared.value.Action.TheVariants as act
 use Rattle.step_meaning.specs.declared.stmt.VerdictKind.TheVariants.{Safe, Accept}
 use Rattle.step_meaning.specs.declared.program.Core.{Core}
 use Rattle.step_meaning.specs.declared.program.Function.{Function as CoreFunction}
-use Rattle.step_meaning.specs.Steps.{Step, Verdict, Made, Judged, Trace, Stop, Then, items, steps, end}
-use Rattle.step_meaning.specs.Runs.{run}
+use Rattle.step_meaning.specs.Steps.{Step, Trace, items, steps, end}
 use Rattle.step_meaning.specs.Erasure.{name_if_any, function_name, shown_action, ShownAction, ShownStep, shown_step, erased, Enter, Call, Return}
 use Rattle.weave_cli.specs.Simulation.{verdicts, verdicts_before, AreSafe, HasNoAccept, IsMonitor}
 use Rattle.weave_cli.specs.FirstTask.{Writes, NeverWrites}
@@ -109,7 +108,7 @@ module _ (p q : Core) (names : (g : ℕ) → function_name q g ≡ function_name
   same_shown : (s : Step) → shown_step q s ≡ shown_step p s
   same_shown s =
       ap₂ (λ (a : ShownAction) (f : List ℕ). let shown : ShownStep = record { action = a; function = f; activation = s.activation; memory = s.memory } in shown)
-          (same_action s.action) (names s.function)
+      (same_action s.action) (names s.function)
 
   pub same_erased : (x : ℕ) (t u : Trace) → Woven x t u → erased q (items u) ≡ erased p (items t)
   same_erased x _ _ stops = refl

@@ -1,8 +1,7 @@
 -- The runs of a source of the first form and of its woven program, item by item.
-use Rattle.std.proofs.Common.{◌≡◌, ℕ, zero, suc, ◌≤◌, Bool, true, false, not, ◌&&◌, ◌||◌, List, [], ◌∷◌, ◌++◌, map, Option, Some, None, refl, sym, ap, subst, ◌∙◌, arith}
-use Rattle.std.specs.Prelude.{◌==◌, pos, ℤ}
-use Rattle.std.specs.List.{flat_map, AllByRecursion}
-use Rattle.step_meaning.specs.declared.value.CType.{CType}
+use Rattle.std.proofs.Common.{◌≡◌, ℕ, suc, Bool, true, false, not, List, [], ◌∷◌, ◌++◌, Option, Some, None, refl}
+use Rattle.std.specs.Prelude.{◌==◌}
+use Rattle.std.specs.List.{AllByRecursion}
 use Rattle.step_meaning.specs.declared.value.Value.{Value}
 use Rattle.step_meaning.specs.declared.value.Value.TheVariants as value
 use Rattle.step_meaning.specs.declared.value.Cell.{Cell}
@@ -11,9 +10,8 @@ use Rattle.step_meaning.specs.declared.value.Action.{Action}
 use Rattle.step_meaning.specs.declared.value.Action.TheVariants as act
 use Rattle.step_meaning.specs.declared.stmt.VerdictKind.TheVariants.{Safe}
 use Rattle.step_meaning.specs.declared.stmt.Stmt.{Stmt}
-use Rattle.step_meaning.specs.declared.value.RunFault.{RunFault}
 use Rattle.step_meaning.specs.Memory.{Memory, reached}
-use Rattle.step_meaning.specs.Steps.{Step, Verdict, Item, Made, Judged, End, Fault, Trace, Stop, Then}
+use Rattle.step_meaning.specs.Steps.{Step, Verdict, Made, Judged, End, Trace, Stop, Then}
 use Rattle.step_meaning.specs.State.{State, Registers, Here}
 use Rattle.step_meaning.specs.Flow.{Resting, RestingCall, resting}
 use Rattle.step_meaning.specs.Ghosts.{assertion_holds}
@@ -23,8 +21,8 @@ use Rattle.c_parser.specs.declared.tree.FirstStmt.{FirstStmt}
 use Rattle.c_parser.specs.declared.tree.FirstStmt.TheVariants as stmt
 use Rattle.c_parser.specs.declared.tree.Mode.TheVariants as mode
 use Rattle.c_parser.specs.FirstForm.{StatementFits}
-use Rattle.weave_cli.specs.FirstCore.{int, variable, separated, core_statement, core_statements}
-use Rattle.weave_cli.specs.Weaving.{woven_statement, woven_statements}
+use Rattle.weave_cli.specs.FirstCore.{int, separated, core_statements}
+use Rattle.weave_cli.specs.Weaving.{woven_statements}
 
 -- an action that writes nothing
 abbrev pub IsQuiet : Action → Type 0
@@ -86,7 +84,7 @@ module _ (x : ℕ) (call call' : ℕ → List Value → RestingCall) (alike : Ca
     by = λ rest rest' h s r.
         let more = statements_alike n e ss tail fits.1 after in
         writes _ _ y (value.Int z) refl refl refl (separated_holds y x here s.memory s.ghosts r)
-            ((write_alike x here (global_pointer y) (value.Int z) (reached s.memory (global_pointer y) int)).by _ _ (λ v s r. more.by rest rest' h s r) s r);
+        ((write_alike x here (global_pointer y) (value.Int z) (reached s.memory (global_pointer y) int)).by _ _ (λ v s r. more.by rest rest' h s r) s r);
   }
   statements_alike n e (stmt.Call f ∷ ss) tail fits after = record {
     by = λ rest rest' h s r.
