@@ -42,7 +42,7 @@ mark_at text k m e h = shape_at text mark k m e h
 
 -- ---- names and keywords
 
-identifier_run : (text : List ℕ) (n : ℕ) → is_letter (get_or text 0 0) ≡ true → IsRun is_word text n → is_identifier (take n text) ≡ true
+pub identifier_run : (text : List ℕ) (n : ℕ) → is_letter (get_or text 0 0) ≡ true → IsRun is_word text n → is_identifier (take n text) ≡ true
 unfolding is_identifier
 identifier_run [] n h run = cc
 identifier_run (c ∷ cs) zero h run = absurd (omega (arith, IsRun-some is_word c cs 0 (letter_word c h) run))
