@@ -10,7 +10,8 @@ use Rattle.c_lexer.specs.declared.piece.Piece.{Piece}
 use Rattle.c_lexer.specs.declared.piece.Piece.TheVariants as piece
 use Rattle.c_lexer.specs.declared.position.Position.{Position}
 use Rattle.c_lexer.specs.Positions.{step, after, place_of}
-use Rattle.c_lexer.specs.Lexing.{Stands, token_at, fault_at, Lexed, ends, blank, ignored, token, stops, IsOneLexing, HasOneLexing}
+use Rattle.c_lexer.specs.Lexing.{Stands, token_at, fault_at, Lexed, ends, blank, ignored, token, stops}
+use Rattle.c_lexer.specs.LexingLaws.{IsOneLexing, HasOneLexing}
 use Rattle.c_lexer.proofs.OpeningLemmas.{one_piece}
 
 -- ---- what follows, where it is known what stands at a place

@@ -13,3 +13,4 @@ pub mod NumberLemmas
 pub mod OpeningLemmas
 pub mod LexingLaws
 pub mod LexedLemmas
+pub mod SpellingLaws

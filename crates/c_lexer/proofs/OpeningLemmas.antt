@@ -140,7 +140,7 @@ one_piece p leads text x y h i = one_at (opening p leads text) p text x y h.stan
 -- ---- how far a piece reaches
 
 whole_reaches : (text : List ℕ) (k : TokenKind) (n : ℕ) → 0 < n → n ≤ length text → Reaches text (whole_token k n)
-whole_reaches text k n some fits = record { some = some; fits = fits; first = omega arith; past = omega arith }
+whole_reaches text k n some fits = record { some = some; fits = fits; ordered = omega arith; past = omega arith }
 
 number_reaches : (text : List ℕ) (r : Result IntSuffix Flaw) (n : ℕ) → 0 < n → n ≤ length text → Reaches text (number_piece r n)
 number_reaches text (Ok s) n some fits = whole_reaches text (kind.Number s) n some fits
@@ -156,17 +156,16 @@ lexeme_reaches text directive w n some fits = whole_reaches text kind.Percent n 
 lexeme_reaches text string w n some fits = whole_reaches text kind.Text n some fits
 lexeme_reaches text mark w n some fits = whole_reaches text kind.Punctuation n some fits
 
-annotation_reaches : (text content : List ℕ) (o : Option TokenKind) (past n : ℕ) → 0 < n → n ≤ length text → past ≤ n → length content + 2 ≤ n → (o ≡ annotation_of content) → Reaches text (annotation_piece o past n)
+annotation_reaches : (text content : List ℕ) (o : Option TokenKind) (past n : ℕ) → 0 < n → n ≤ length text → past ≤ n → length content + 2 ≤ past → (o ≡ annotation_of content) → Reaches text (annotation_piece o past n)
 unfolding annotation_of
 annotation_reaches text content None past n some fits le long e = (some, fits)
 annotation_reaches text [] (Some k) past n some fits le long e = cc
-annotation_reaches text (c ∷ cs) (Some k) past n some fits le long e = record { some = some; fits = fits; first = omega (arith, long); past = le }
+annotation_reaches text (c ∷ cs) (Some k) past n some fits le long e = record { some = some; fits = fits; ordered = omega (arith, long); past = le }
 
 comment_reaches : (p : Profile) (text : List ℕ) (past n : ℕ) → 2 ≤ past → past ≤ n → n ≤ length text → Reaches text (comment_piece p text past n)
 unfolding comment_piece
 comment_reaches profile.C text past n low le fits =
-    let content = take (past - 2) (drop 2 text) in
-    let long : length (take (past - 2) (drop 2 text)) + 2 ≤ n = omega (arith, length-take (past - 2) (drop 2 text)) in
+    let long : length (take (past - 2) (drop 2 text)) + 2 ≤ past = omega (arith, length-take (past - 2) (drop 2 text)) in
     annotation_reaches text (take (past - 2) (drop 2 text)) (annotation_of (take (past - 2) (drop 2 text))) past n (omega arith) fits le long refl
 comment_reaches profile.Annotation text past n low le fits = (omega arith, fits)
 comment_reaches profile.Ya text past n low le fits = (omega arith, fits)
@@ -212,3 +211,17 @@ marker_reaches text x h e = subst (Reaches text) (sym e) (marker_within text (is
 pub lexeme_within : (p : Profile) (text : List ℕ) (x : Piece) → IsLexeme p text x → Reaches text x
 lexeme_within p text x (longest s n l e) = subst (Reaches text) (sym e) (lexeme_reaches text s (take n text) n (begins_some p text s n l.begins) l.begins.fits)
 lexeme_within p text x (missing none e) = subst (Reaches text) (sym e) tt
+
+reaches_if : (p : Profile) (leads : Bool) (c : ℕ) (cs : List ℕ) (x : Piece) (a b d m : Bool) → opens_line (c ∷ cs) ≡ d → opens_marker p leads (c ∷ cs) ≡ m
+    → StandsAt (if a then at_blank else (if b then at_block_comment else (if d then at_line_comment else (if m then at_line_marker else at_lexeme)))) p (c ∷ cs) x → Reaches (c ∷ cs) x
+reaches_if p leads c cs x true b d m f g s = subst (Reaches (c ∷ cs)) (sym s) (omega arith)
+reaches_if p leads c cs x false true d m f g s = block_reaches p (c ∷ cs) x s
+reaches_if p leads c cs x false false true m f g s = line_reaches p (c ∷ cs) x f s
+reaches_if p leads c cs x false false false true f g s = marker_reaches (c ∷ cs) x (left (c == 35) _ g) s
+reaches_if p leads c cs x false false false false f g s = lexeme_within p (c ∷ cs) x s
+
+pub reaches_of : (p : Profile) (leads : Bool) (text : List ℕ) (x : Piece) → Stands p leads text x → Reaches text x
+unfolding opening
+reaches_of p leads [] x s = subst (Reaches []) (sym s.stands) tt
+reaches_of p leads (c ∷ cs) x s =
+    reaches_if p leads c cs x (is_blank_in p c) (opens_block (c ∷ cs)) (opens_line (c ∷ cs)) (opens_marker p leads (c ∷ cs)) refl refl s.stands

@@ -89,7 +89,7 @@ pub record Stands (p : Profile) (leads : Bool) (text : List ℕ) (x : Piece) : T
 pub record IsWithin (text : List ℕ) (e : Extent) : Type 0 where
   pub some : 0 < e.len
   pub fits : e.len ≤ length text
-  pub first : e.first ≤ e.len
+  pub ordered : e.first ≤ e.past
   pub past : e.past ≤ e.len
 
 abbrev pub Reaches : List ℕ → Piece → Type 0
@@ -136,15 +136,6 @@ SpecTokens text tokens end = Lexed profile.Ya start true text tokens end
 abbrev pub IsFaultOf : (List Token → Option LexFault → Type 0) → LexFault → Type 0
 IsFaultOf of_text fault.Memory = Unit {0}
 IsFaultOf of_text f = (tokens : List Token) × of_text tokens (Some f)
-
--- a text has one list of tokens and one end
-pub record IsOneLexing (xs ys : List Token) (e f : Option LexFault) : Type 0 where
-  pub tokens : xs ≡ ys
-  pub end : e ≡ f
-
-abbrev pub HasOneLexing : Type 0
-HasOneLexing = (p : Profile) (at : Position) (leads : Bool) (text : List ℕ) (xs ys : List Token) (e f : Option LexFault)
-    → Lexed p at leads text xs e → Lexed p at leads text ys f → IsOneLexing xs ys e f
 
 -- the number of a fault, and its place; want of memory has none
 abbrev pub refusal_of : LexFault → Option Refusal

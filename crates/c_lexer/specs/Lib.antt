@@ -7,3 +7,4 @@ pub mod Lexemes
 pub mod Numbers
 pub mod Comments
 pub mod Lexing
+pub mod LexingLaws

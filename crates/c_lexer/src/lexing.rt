@@ -1,8 +1,9 @@
 //! The tokens of C programs, of annotations and of Ya texts.
 
 ghost use Rattle.std.specs.Prelude.{◌≡◌, ◌==◌, ◌||◌, ◌+◌, ◌-◌, ◌^◌, ◌<◌, ◌≤◌, true, None, length, take, drop, IfOk, IfErr};
+ghost use Rattle.c_lexer.specs.LexingLaws.{HasOneLexing, TokensAreSpelled, TokensFollow, TokensAreFew};
 ghost use Rattle.c_lexer.specs.Positions.{start, after};
-ghost use Rattle.c_lexer.specs.Lexing.{Stands, Reaches, token_at, Lexed, IsFaultOf, Tokens, AnnotationTokens, SpecTokens, HasOneLexing};
+ghost use Rattle.c_lexer.specs.Lexing.{Stands, Reaches, token_at, Lexed, IsFaultOf, Tokens, AnnotationTokens, SpecTokens};
 
 use crate::fault::LexFault;
 use crate::piece::{Extent, Piece, piece_of};
@@ -146,6 +147,13 @@ pub fn lex_spec(alloc: Global, text: &[u8]) -> Result<Vec<Token>, LexFault>
 /// A text has one list of tokens, and one end.
 pub fn one_lexing()
     ensures { HasOneLexing }
+{}
+
+/// Where the tokens lie: the text of each is one of the text and has the form of its kind, and they are in order.
+pub fn tokens_lie()
+    ensures spelled { TokensAreSpelled }
+    ensures ordered { TokensFollow }
+    ensures few { TokensAreFew }
 {}
 
 #[cfg(test)]
