@@ -157,7 +157,7 @@ mark_of c h i j = lead_mark c h i (not_backslash c j)
 abbrev pub is_single : ℕ → Bool
 is_single c = list_any (λ b. c == b) (codes ";,(){}=&:")
 
-among_bytes : (test : ℕ → Bool) (bs : List ℕ) (c : ℕ) → list_all test bs ≡ true → list_any (λ b. c == b) bs ≡ true → test c ≡ true
+pub among_bytes : (test : ℕ → Bool) (bs : List ℕ) (c : ℕ) → list_all test bs ≡ true → list_any (λ b. c == b) bs ≡ true → test c ≡ true
 among_bytes test [] c h i = cc
 among_bytes test (b ∷ bs) c h i =
     ⊎_elim (λ e. let same : c ≡ b = grind (arith, nat_tests) in ap test same ∙ left _ _ h) (λ e. among_bytes test bs c (right _ _ h) e) (either (c == b) _ i)

@@ -6,7 +6,6 @@ use Rattle.c_lexer.specs.declared.profile.Profile.{Profile}
 use Rattle.c_lexer.specs.declared.fault.Flaw.{Flaw}
 use Rattle.c_lexer.specs.declared.fault.LexFault.{LexFault}
 use Rattle.c_lexer.specs.declared.piece.Extent.{Extent}
-use Rattle.c_lexer.specs.declared.piece.Piece.{Piece}
 use Rattle.c_lexer.specs.declared.piece.Piece.TheVariants as piece
 use Rattle.c_lexer.specs.declared.position.Position.{Position}
 use Rattle.c_lexer.specs.Positions.{step, after, place_of}

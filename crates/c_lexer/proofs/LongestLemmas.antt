@@ -1,19 +1,17 @@
 -- The longest lexeme at a place, for each sort.
-use Rattle.std.proofs.Common.{◌≡◌, ℕ, zero, suc, ◌+◌, ◌-◌, ◌<◌, ◌≤◌, Bool, true, false, not, ◌&&◌, ◌||◌, ◌==◌, nat_le, if◌then◌else◌, List, [], ◌∷◌, length, take, drop, get_or, refl, sym, ap, subst, ◌∙◌, ◌⊎◌, inl, inr, ⊎_elim, arith}
-use Rattle.std.specs.List.{list_any, list_all, take_while}
-use Rattle.std.specs.Str.{bytes_eq}
+use Rattle.std.proofs.Common.{◌≡◌, ℕ, zero, suc, ◌<◌, ◌≤◌, Bool, true, false, ◌&&◌, ◌==◌, List, [], ◌∷◌, length, take, drop, get_or, refl, sym, ap, ◌∙◌, ⊎_elim, arith}
+use Rattle.std.specs.List.{list_all, take_while}
 use Rattle.std.proofs.lemmas.Bool.{cases_lt}
 use Rattle.std.proofs.lemmas.Bool.Decides.{nat_tests}
 use Rattle.std.proofs.lemmas.List.{length-take-le, get_or-take}
 use Rattle.c_lexer.specs.declared.profile.Profile.{Profile}
-use Rattle.c_lexer.specs.declared.profile.Profile.TheVariants as profile
 use Rattle.c_lexer.specs.Bytes.{is_digit, is_letter, is_word, is_number_part}
 use Rattle.c_lexer.specs.FirstTokens.{is_identifier, is_number, is_backslash_word}
-use Rattle.c_lexer.specs.Lexemes.{Shape, word, number, character, backslash, directive, string, mark, is_specification, is_annotation, is_ya, is_plain, is_escape, is_plain_character, is_escaped_character, is_character, is_text, is_string_of, is_string, directives, is_directive, c_marks, further_marks, is_mark, is_lexeme, IsRangeAt, HasNoRange, Begins, IsLongest, BeginsOnly}
-use Rattle.c_lexer.proofs.ListLemmas.{both, left, right, either, apart, not_true, among, IsRun, IsRun-take_while, IsRun-some}
-use Rattle.c_lexer.proofs.TokenLemmas.{starts, identifier_words, number_parts, letter_word, digit_part}
+use Rattle.c_lexer.specs.Lexemes.{Shape, word, number, character, backslash, is_specification, is_plain, is_escape, is_plain_character, is_escaped_character, is_character, is_lexeme, IsRangeAt, HasNoRange, Begins, IsLongest}
+use Rattle.c_lexer.proofs.ListLemmas.{both, left, right, apart, IsRun, IsRun-take_while, IsRun-some}
+use Rattle.c_lexer.proofs.TokenLemmas.{identifier_words, number_parts, digit_part}
 use Rattle.c_lexer.proofs.FrontLemmas.{identifier_run}
-use Rattle.c_lexer.proofs.LeadLemmas.{lexeme_some, begins_some, words_only, numbers_only, characters_only, backslashes_only, strings_only, begins_as}
+use Rattle.c_lexer.proofs.LeadLemmas.{lexeme_some, words_only, numbers_only, characters_only, backslashes_only, begins_as}
 
 -- a byte that isn't 0 is one of the text
 pub byte_within : (text : List ℕ) (i b : ℕ) → get_or text i 0 ≡ suc b → i < length text

@@ -1,6 +1,5 @@
 -- What stands at a place, from its first bytes; one piece stands there, and it lies in the text.
-use Rattle.std.proofs.Common.{◌≡◌, ℕ, zero, suc, ◌+◌, ◌-◌, ◌<◌, ◌≤◌, Bool, true, false, not, ◌&&◌, ◌||◌, ◌==◌, if◌then◌else◌, List, [], ◌∷◌, length, take, drop, get_or, refl, sym, ap, subst, ◌∙◌, ⊎_elim, arith, Option, Some, None, Result, Ok, Err}
-use Rattle.std.specs.List.{take_while}
+use Rattle.std.proofs.Common.{◌≡◌, ℕ, ◌+◌, ◌-◌, ◌<◌, ◌≤◌, Bool, true, false, not, ◌&&◌, ◌==◌, if◌then◌else◌, List, [], ◌∷◌, length, take, drop, get_or, refl, sym, ap, subst, ◌∙◌, ⊎_elim, arith, Option, Some, None, Result, Ok, Err}
 use Rattle.std.proofs.lemmas.Bool.{cases_lt}
 use Rattle.std.proofs.lemmas.Bool.Decides.{nat_tests}
 use Rattle.std.proofs.lemmas.List.{length-take, length-drop}
@@ -13,19 +12,17 @@ use Rattle.c_lexer.specs.declared.profile.Profile.{Profile}
 use Rattle.c_lexer.specs.declared.profile.Profile.TheVariants as profile
 use Rattle.c_lexer.specs.declared.fault.Flaw.{Flaw}
 use Rattle.c_lexer.specs.declared.fault.Flaw.TheVariants as flaw
-use Rattle.c_lexer.specs.declared.piece.Extent.{Extent}
 use Rattle.c_lexer.specs.declared.piece.Piece.{Piece}
 use Rattle.c_lexer.specs.declared.piece.Piece.TheVariants as piece
-use Rattle.c_lexer.specs.Bytes.{is_blank, is_keyword}
-use Rattle.c_lexer.specs.FirstTokens.{is_backslash_word}
+use Rattle.c_lexer.specs.Bytes.{is_keyword}
 use Rattle.c_lexer.specs.Numbers.{number_of}
-use Rattle.c_lexer.specs.Lexemes.{Shape, word, number, character, backslash, directive, string, mark, is_specification, is_annotation, is_ya, directives, is_directive, c_marks, further_marks, is_mark, is_lexeme, Begins, IsLongest}
+use Rattle.c_lexer.specs.Lexemes.{Shape, word, number, character, backslash, directive, string, mark, is_specification, is_ya, directives, is_directive, c_marks, further_marks, is_mark, is_lexeme}
 use Rattle.c_lexer.specs.Comments.{line_of, Closes, ClosesFirst, annotation_of, annotation_piece, comment_piece, IsBlockComment, closed, never, line_comment, is_marker, marker_piece}
-use Rattle.c_lexer.specs.Lexing.{is_blank_in, whole_token, number_piece, lexeme_piece, IsLexeme, longest, missing, Opening, at_end, at_blank, at_block_comment, at_line_comment, at_line_marker, at_lexeme, opening, StandsAt, Stands, IsWithin, Reaches}
+use Rattle.c_lexer.specs.Lexing.{is_blank_in, whole_token, number_piece, lexeme_piece, IsLexeme, longest, missing, Opening, at_end, at_blank, at_block_comment, at_line_comment, at_line_marker, at_lexeme, opening, StandsAt, Stands, Reaches}
 use Rattle.c_lexer.proofs.ListLemmas.{left, right, either, apart, not_true, among, both, IsRun-take_while}
-use Rattle.c_lexer.proofs.LeadLemmas.{lead, lead_of, begins_some, begins_lead, lexeme_some, only_word, only_number, only_character, only_backslash, only_string}
+use Rattle.c_lexer.proofs.LeadLemmas.{lead_of, begins_some, begins_lead, only_word, only_number, only_character, only_backslash, only_string}
 use Rattle.c_lexer.proofs.LongestLemmas.{byte_within}
-use Rattle.std.specs.List.{list_any, prefix_len}
+use Rattle.std.specs.List.{list_any}
 use Rattle.std.specs.Str.{bytes_eq}
 
 -- ---- what stands where the first bytes are known

@@ -1,5 +1,5 @@
 -- The pieces that lexemes are.
-use Rattle.std.proofs.Common.{◌≡◌, ℕ, suc, ◌+◌, Bool, true, false, if◌then◌else◌, ◌==◌, List, length, take, get_or, refl, sym, ap, subst, ◌∙◌, arith, Result, Ok, Err}
+use Rattle.std.proofs.Common.{◌≡◌, ℕ, true, false, if◌then◌else◌, ◌==◌, List, take, get_or, sym, ap, ◌∙◌, Result}
 use Rattle.c_lexer.specs.declared.token.TokenKind.TheVariants as kind
 use Rattle.c_lexer.specs.declared.token.IntSuffix.{IntSuffix}
 use Rattle.c_lexer.specs.declared.profile.Profile.{Profile}
@@ -10,7 +10,7 @@ use Rattle.c_lexer.specs.declared.piece.Piece.TheVariants as piece
 use Rattle.c_lexer.specs.Bytes.{is_keyword}
 use Rattle.c_lexer.specs.Numbers.{number_of}
 use Rattle.c_lexer.specs.Lexemes.{Shape, word, number, character, backslash, directive, string, mark, Begins, IsLongest}
-use Rattle.c_lexer.specs.Lexing.{whole_token, number_piece, lexeme_piece, missing_flaw, IsLexeme, longest, missing}
+use Rattle.c_lexer.specs.Lexing.{whole_token, number_piece, lexeme_piece, IsLexeme, longest, missing}
 
 pub keyword_is : (p : Profile) (text : List ℕ) (n : ℕ) (x : Piece) → IsLongest p text word n → is_keyword (take n text) ≡ true → x ≡ whole_token kind.Keyword n → IsLexeme p text x
 unfolding lexeme_piece

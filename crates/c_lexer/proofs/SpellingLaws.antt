@@ -1,6 +1,6 @@
 -- Where the tokens of a text lie, and what their bytes are.
-use Rattle.std.proofs.Common.{◌≡◌, ℕ, zero, suc, ◌+◌, ◌-◌, ◌<◌, ◌≤◌, Bool, true, false, not, if◌then◌else◌, List, [], ◌∷◌, length, take, drop, get_or, refl, sym, ap, ap₂, subst, ◌∙◌, arith, Option, Some, None, Result, Ok, Err}
-use Rattle.std.specs.Prelude.{All, AllPairs, codes}
+use Rattle.std.proofs.Common.{◌≡◌, ℕ, zero, suc, ◌+◌, ◌-◌, ◌<◌, ◌≤◌, Bool, true, false, if◌then◌else◌, List, [], ◌∷◌, length, take, drop, refl, ap, ap₂, subst, ◌∙◌, arith, Option, Some, None, Result, Ok, Err}
+use Rattle.std.specs.Prelude.{AllPairs, codes}
 use Rattle.std.specs.Str.{bytes_eq}
 use Rattle.std.specs.List.{AllByRecursion}
 use Rattle.std.proofs.lemmas.List.{drop-drop, length-drop, length-take-le}
@@ -20,9 +20,9 @@ use Rattle.c_lexer.specs.declared.position.Position.{Position}
 use Rattle.c_lexer.specs.Positions.{step, after}
 use Rattle.c_lexer.specs.Bytes.{is_keyword}
 use Rattle.c_lexer.specs.Numbers.{number_of}
-use Rattle.c_lexer.specs.Lexemes.{Shape, word, number, character, backslash, directive, string, mark, is_specification, is_annotation, is_ya, is_lexeme, IsLongest}
+use Rattle.c_lexer.specs.Lexemes.{Shape, word, number, character, backslash, directive, string, mark, is_specification, is_annotation, is_ya, is_lexeme}
 use Rattle.c_lexer.specs.Comments.{line_of, first_word, kind_by_word, annotation_of, annotation_piece, comment_piece, IsBlockComment, closed, never, is_marker, marker_piece}
-use Rattle.c_lexer.specs.Lexing.{whole_token, number_piece, lexeme_piece, IsLexeme, longest, missing, Opening, at_end, at_blank, at_block_comment, at_line_comment, at_line_marker, at_lexeme, opening, StandsAt, Stands, IsWithin, Reaches, token_at, Lexed, ends, blank, ignored, token, stops}
+use Rattle.c_lexer.specs.Lexing.{whole_token, number_piece, lexeme_piece, IsLexeme, longest, missing, Opening, at_end, at_blank, at_block_comment, at_line_comment, at_line_marker, at_lexeme, opening, StandsAt, Stands, IsWithin, token_at, Lexed, ends, blank, ignored, token, stops}
 use Rattle.c_lexer.specs.LexingLaws as law
 use Rattle.c_lexer.specs.LexingLaws.{IsSpelled, IsTokenIn}
 use Rattle.c_lexer.proofs.ListLemmas.{right}

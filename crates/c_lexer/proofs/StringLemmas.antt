@@ -8,9 +8,11 @@ use Rattle.std.proofs.lemmas.List.{length-take-le, get_or-take}
 use Rattle.c_lexer.specs.declared.profile.Profile.{Profile}
 use Rattle.c_lexer.specs.declared.profile.Profile.TheVariants as profile
 use Rattle.c_lexer.specs.Bytes.{is_word}
-use Rattle.c_lexer.specs.Lexemes.{Shape, word, number, character, backslash, directive, string, mark, is_specification, is_annotation, is_ya, is_text, is_string_of, is_string, directives, is_directive, c_marks, further_marks, is_mark, is_lexeme, Begins, IsLongest, BeginsOnly}
+use Rattle.c_lexer.specs.Lexemes.{Shape, directive, string, mark, is_specification, is_text, is_string_of, is_string, directives, is_directive, c_marks, further_marks, is_mark, is_lexeme, Begins, IsLongest, BeginsOnly}
 use Rattle.c_lexer.proofs.ListLemmas.{both, left, right, either, apart, among, IsRun, IsRun-take_while}
 use Rattle.c_lexer.proofs.TokenLemmas.{starts}
+use Rattle.c_lexer.proofs.FrontLemmas.{among_bytes}
+use Rattle.std.specs.Prelude.{codes}
 use Rattle.c_lexer.proofs.LeadLemmas.{lead, lead_of, lead_byte, lexeme_some, begins_lead, strings_only, begins_as}
 use Rattle.c_lexer.proofs.LongestLemmas.{byte_within, test_same}
 
@@ -273,3 +275,35 @@ no_mark p text n e only bound s m b =
     let b' = begins_as p text s mark m only b in
     let none : m ≡ 0 = omega (arith, bound m b'.fits b'.spelled) in
     lexeme_some p mark (subst (λ i. is_mark p (take i text) ≡ true) none b'.spelled)
+
+-- a punctuator of one byte that begins no longer one
+abbrev is_lone : ℕ → Bool
+is_lone c = list_any (λ b. c == b) (codes "{}()[];,~?:")
+
+lone_byte : (c : ℕ) → is_lone c ≡ true → list_any (bytes_eq (c ∷ [])) c_marks ≡ true
+unfolding c_marks
+lone_byte c h = among_bytes (λ b. list_any (bytes_eq (b ∷ [])) c_marks) (codes "{}()[];,~?:") c refl h
+
+lone_short : (p : Profile) (c : ℕ) (cs : List ℕ) → is_lone c ≡ true → is_mark p (c ∷ cs) ≡ true → length (c ∷ cs) ≤ 1
+unfolding is_mark c_marks further_marks
+lone_short p c cs h i =
+    let test : List ℕ → Bool = λ w. not (starts is_lone w) || nat_le (length w) 1 in
+    ⊎_elim (λ j. le_test _ 1 (test_or (is_lone c) _ (among test c_marks (c ∷ cs) refl j) h))
+    (λ j. le_test _ 1 (test_or (is_lone c) _ (among test further_marks (c ∷ cs) refl (right (is_specification p) _ j)) h))
+    (either (list_any (bytes_eq (c ∷ cs)) c_marks) _ i)
+
+pub lone_within : (text : List ℕ) → is_lone (get_or text 0 0) ≡ true → 1 ≤ length text
+lone_within [] h = cc
+lone_within (c ∷ cs) h = omega arith
+
+pub lone_mark : (p : Profile) (text : List ℕ) → is_lone (get_or text 0 0) ≡ true → is_mark p (take 1 text) ≡ true
+unfolding is_mark
+lone_mark p [] h = cc
+lone_mark p (c ∷ cs) h = ap (λ b. b || (is_specification p && list_any (bytes_eq (c ∷ [])) further_marks)) (lone_byte c h)
+
+pub lone_longest : (p : Profile) (text : List ℕ) → is_lone (get_or text 0 0) ≡ true → (m : ℕ) → m ≤ length text → is_mark p (take m text) ≡ true → m ≤ 1
+lone_longest p text h zero le i = omega arith
+lone_longest p [] h (suc m) le i = absurd (omega arith)
+lone_longest p (c ∷ cs) h (suc m) le i =
+    let short = lone_short p c (take m cs) h i in
+    omega (arith, short, length-take-le m cs (omega arith))

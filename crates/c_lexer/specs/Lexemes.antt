@@ -5,7 +5,7 @@ use Rattle.std.specs.List.{list_any, list_all}
 use Rattle.std.specs.Str.{bytes_eq}
 use Rattle.c_lexer.specs.declared.profile.Profile.{Profile}
 use Rattle.c_lexer.specs.declared.profile.Profile.TheVariants as profile
-use Rattle.c_lexer.specs.Bytes.{is_between, is_letter, is_word}
+use Rattle.c_lexer.specs.Bytes.{is_between, is_word}
 use Rattle.c_lexer.specs.FirstTokens.{is_identifier, is_number, is_backslash_word}
 
 -- the sorts of lexemes

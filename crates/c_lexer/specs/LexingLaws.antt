@@ -1,5 +1,5 @@
 -- What holds of the tokens of programs, annotations and Ya texts.
-use Rattle.std.specs.Prelude.{◌≡◌, ℕ, ◌+◌, ◌-◌, ◌≤◌, Bool, true, false, List, length, take, drop, Option, Some, Result, Ok, All, AllPairs}
+use Rattle.std.specs.Prelude.{◌≡◌, ℕ, ◌+◌, ◌-◌, ◌≤◌, Bool, true, false, List, length, take, drop, Option, Some, Ok, All, AllPairs}
 use Rattle.c_lexer.specs.declared.token.TokenKind.{TokenKind}
 use Rattle.c_lexer.specs.declared.token.TokenKind.TheVariants as kind
 use Rattle.c_lexer.specs.declared.token.Token.{Token}

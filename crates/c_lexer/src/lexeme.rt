@@ -1,6 +1,7 @@
 //! The longest lexeme at a place.
 
-ghost use Rattle.std.specs.Prelude.{◌≡◌, ℕ, ◌-◌, ◌^◌, ◌<◌, ◌≤◌, true, false, ◌&&◌, ◌==◌, length, take, slice_index};
+ghost use Rattle.std.specs.Prelude.{◌≡◌, ℕ, ◌-◌, ◌^◌, ◌<◌, ◌≤◌, true, false, ◌&&◌, ◌==◌, length, take, slice_index, codes};
+ghost use Rattle.std.specs.List.{list_any};
 ghost use Rattle.c_lexer.specs.Bytes.{is_letter, is_digit, is_blank};
 ghost use Rattle.c_lexer.specs.Lexemes as spec;
 ghost use Rattle.c_lexer.specs.Lexemes.{is_plain, is_escape, is_plain_character, is_escaped_character, is_string_of, is_mark, IsRangeAt, HasNoRange, BeginsOnly, IsLongest};
@@ -171,8 +172,8 @@ fn is_mark(profile: Profile, bytes: &[u8]) -> bool
     is_among(&C_MARKS, bytes) || (profile.is_specification() && is_among(&FURTHER_MARKS, bytes))
 }
 
-/// The length of the longest punctuator that the text begins with, or 0.
-fn mark_len(profile: Profile, text: &[u8]) -> usize
+/// The length of the longest punctuator that the text begins with, or 0, found from the greatest length down.
+fn longest_mark(profile: Profile, text: &[u8]) -> usize
     ensures within { result ≤ length text.now }
     ensures mark { 0 < result → is_mark profile (take result text.now) ≡ true }
     ensures longest { (m : ℕ) → m ≤ length text.now → is_mark profile (take m text.now) ≡ true → m ≤ result }
@@ -182,6 +183,29 @@ fn mark_len(profile: Profile, text: &[u8]) -> usize
         len -= 1;
     }
     len
+}
+
+/// Whether the byte is a punctuator that begins no longer one.
+fn is_lone(byte: u8) -> bool
+    ensures { result ≡ list_any (λ c. byte == c) (codes "{}()[];,~?:") }
+{
+    matches!(
+        byte,
+        b'{' | b'}' | b'(' | b')' | b'[' | b']' | b';' | b',' | b'~' | b'?' | b':'
+    )
+}
+
+/// The length of the longest punctuator that the text begins with, or 0.
+fn mark_len(profile: Profile, text: &[u8]) -> usize
+    ensures within { result ≤ length text.now }
+    ensures mark { 0 < result → is_mark profile (take result text.now) ≡ true }
+    ensures longest { (m : ℕ) → m ≤ length text.now → is_mark profile (take m text.now) ≡ true → m ≤ result }
+{
+    if is_lone(byte_at(text, 0)) {
+        1
+    } else {
+        longest_mark(profile, text)
+    }
 }
 
 /// What stands where no other lexeme than a punctuator can begin.

@@ -42,35 +42,41 @@ fn letter(kind: TokenKind) -> &'static str {
     }
 }
 
+/// The worked refusals, comments and annotations.
 #[test]
-fn reads_programs(rt: HostRuntime) -> Result<(), Fail> {
+fn reads_comments(rt: HostRuntime) -> Result<(), Fail> {
     let cases = [
         ("", ""),
         ("int x;", "knp"),
-        // the worked refusals
         ("int @;", "101 1:5"),
         ("/* open", "102 1:1"),
         ("int x = 09;", "103 1:9"),
         ("int x = 99999999999999999999;", "104 1:9"),
         ("#define X 1", "105 1:1"),
         ("int x = 'ab';", "106 1:9"),
-        // comments
         ("/*/", "102 1:1"),
         ("/*/*/ x", "n"),
         ("/**/", ""),
         ("x // y\n/* z\n*/ @", "101 3:4"),
         ("// x", ""),
         ("x /", "np"),
-        // characters
-        ("''", "106 1:1"),
-        ("'\\x41'", "106 1:1"),
-        ("'\\n' '\\\\' '\\'' '\"' '\\\"' '\\0'", "cccccc"),
-        ("'''", "106 1:1"),
-        ("'\\'", "106 1:1"),
-        ("'\u{e9}'", "106 1:1"),
-        ("\"x\"", "101 1:1"),
-        ("\\x", "101 1:1"),
-        // numbers
+        ("/*@ meta */ /*@@\n@ghost*/ //@ assert\nx", "MGAn"),
+        ("/*@ metal */ /*@*/ /*@/**/ /* @meta */ //@", ""),
+        ("//@meta", "M"),
+        ("/*@meta", "102 1:1"),
+    ];
+    for (text, want) in cases {
+        assert!(rt; text.len() < 100);
+        let found = shown(&rt, lex(rt.alloc(), text.as_bytes()))?;
+        assert_eq!(rt; found.as_str(), want, "at {text}");
+    }
+    Ok(())
+}
+
+/// Integer constants.
+#[test]
+fn reads_numbers(rt: HostRuntime) -> Result<(), Fail> {
+    let cases = [
         ("0b1", "103 1:1"),
         ("1..2", "103 1:1"),
         ("1e5", "103 1:1"),
@@ -91,14 +97,46 @@ fn reads_programs(rt: HostRuntime) -> Result<(), Fail> {
         ("01777777777777777777777 0xffffffffffffffff", "00"),
         ("02000000000000000000000", "104 1:1"),
         ("0x00000000000000000000001", "0"),
-        // punctuators
+    ];
+    for (text, want) in cases {
+        assert!(rt; text.len() < 100);
+        let found = shown(&rt, lex(rt.alloc(), text.as_bytes()))?;
+        assert_eq!(rt; found.as_str(), want, "at {text}");
+    }
+    Ok(())
+}
+
+/// Characters and punctuators.
+#[test]
+fn reads_characters(rt: HostRuntime) -> Result<(), Fail> {
+    let cases = [
+        ("''", "106 1:1"),
+        ("'\\x41'", "106 1:1"),
+        ("'\\n' '\\\\' '\\'' '\"' '\\\"' '\\0'", "cccccc"),
+        ("'''", "106 1:1"),
+        ("'\\'", "106 1:1"),
+        ("'\u{e9}'", "106 1:1"),
+        ("\"x\"", "101 1:1"),
+        ("\\x", "101 1:1"),
         ("- - 1", "pp0"),
         ("--1", "p0"),
         ("a+++++b", "npppn"),
         ("a<<=b>>=c->d", "npnpnpn"),
         ("==> <==>", "ppppp"),
         ("...", "ppp"),
-        // line markers
+    ];
+    for (text, want) in cases {
+        assert!(rt; text.len() < 100);
+        let found = shown(&rt, lex(rt.alloc(), text.as_bytes()))?;
+        assert_eq!(rt; found.as_str(), want, "at {text}");
+    }
+    Ok(())
+}
+
+/// Line markers and places.
+#[test]
+fn reads_line_markers(rt: HostRuntime) -> Result<(), Fail> {
+    let cases = [
         ("# 1 \"a.c\" /* 'x\nint", "k"),
         ("  # 12\nx", "n"),
         ("# 12", ""),
@@ -110,14 +148,8 @@ fn reads_programs(rt: HostRuntime) -> Result<(), Fail> {
         ("/* */ # 1", "101 1:7"),
         ("/*\n*/ # 1", "101 2:4"),
         ("/*\n*/\n # 1\nx", "n"),
-        // places
         ("\t\r@", "101 1:3"),
         ("\r\n\x0b\x0c @", "101 2:4"),
-        // annotations
-        ("/*@ meta */ /*@@\n@ghost*/ //@ assert\nx", "MGAn"),
-        ("/*@ metal */ /*@*/ /*@/**/ /* @meta */ //@", ""),
-        ("//@meta", "M"),
-        ("/*@meta", "102 1:1"),
     ];
     for (text, want) in cases {
         assert!(rt; text.len() < 100);

@@ -1,4 +1,4 @@
-use Rattle.std.proofs.Common.{sym, ap, subst, length, ◌≡◌, ◌∙◌}
+use Rattle.std.proofs.Common.{sym, ap, length, ◌∙◌}
 use Rattle.std.specs.List.{take_while}
 use Rattle.std.proofs.Math.Numerals.{one-add}
 use Rattle.c_lexer.specs.Bytes.{is_letter, is_word}

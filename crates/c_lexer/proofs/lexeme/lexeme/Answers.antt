@@ -1,7 +1,6 @@
-use Rattle.std.proofs.Common.{◌≡◌, ◌&&◌, ◌==◌, true, false, sym, ap, subst, ◌∙◌, arith}
+use Rattle.std.proofs.Common.{sym, subst, ◌∙◌, arith}
 use Rattle.std.proofs.lemmas.Bool.Decides.{nat_tests}
-use Rattle.c_lexer.specs.Bytes.{is_letter, is_digit}
-use Rattle.c_lexer.specs.Lexemes.{is_specification, is_annotation, is_ya}
+use Rattle.c_lexer.specs.Lexemes.{is_annotation, is_ya}
 use Rattle.c_lexer.specs.Lexing.{IsLexeme}
 use Rattle.c_lexer.proofs.ListLemmas.{left}
 use Rattle.c_lexer.proofs.LeadLemmas.{IsMarkByte, marks_only, annotation_is, ya_is}

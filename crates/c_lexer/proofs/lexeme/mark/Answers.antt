@@ -1,5 +1,4 @@
 use Rattle.std.proofs.Common.{arith}
-use Rattle.std.proofs.lemmas.Bool.Decides.{nat_tests}
 use Rattle.c_lexer.proofs.StringLemmas.{mark_longest, no_mark}
 use Rattle.c_lexer.proofs.PieceLemmas.{mark_is, missing_byte}
 use Rattle.c_lexer.proofs.lexeme.mark.Goals as goal

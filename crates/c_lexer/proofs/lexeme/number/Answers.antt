@@ -1,4 +1,4 @@
-use Rattle.std.proofs.Common.{sym, ◌∙◌, Ok, Err, refl}
+use Rattle.std.proofs.Common.{Ok, Err, refl}
 use Rattle.c_lexer.proofs.PieceLemmas.{number_is}
 use Rattle.c_lexer.proofs.lexeme.number.Goals as goal
 

@@ -1,4 +1,4 @@
-use Rattle.std.proofs.Common.{◌≡◌, true, false, sym, ap, subst, length, take, drop, ◌∙◌, arith}
+use Rattle.std.proofs.Common.{sym, ap, length, take, ◌∙◌, arith}
 use Rattle.std.specs.List.{take_while, list_any}
 use Rattle.std.specs.Str.{bytes_eq}
 use Rattle.c_lexer.specs.Bytes.{is_word}
@@ -6,7 +6,6 @@ use Rattle.c_lexer.specs.Lexemes.{directives}
 use Rattle.c_lexer.specs.Lexing.{whole_token}
 use Rattle.c_lexer.specs.declared.token.TokenKind.TheVariants as kind
 use Rattle.c_lexer.specs.declared.profile.Profile.TheVariants as profile
-use Rattle.std.proofs.Math.Numerals.{one-add}
 use Rattle.c_lexer.proofs.StringLemmas.{directive_longest, no_directive}
 use Rattle.c_lexer.proofs.PieceLemmas.{directive_is}
 use Rattle.c_lexer.proofs.lexeme.percent.Goals as goal

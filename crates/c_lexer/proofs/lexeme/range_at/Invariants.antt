@@ -1,4 +1,3 @@
-use Rattle.std.proofs.Common.{◌≤◌}
 use Rattle.c_lexer.specs.Lexemes.{HasNoRange}
 use Rattle.c_lexer.proofs.lexeme.range_at.Given as goal
 

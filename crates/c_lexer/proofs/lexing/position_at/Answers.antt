@@ -1,4 +1,4 @@
-use Rattle.std.proofs.Common.{ap, ◌∙◌, arith, take, rules}
+use Rattle.std.proofs.Common.{ap, ◌∙◌, arith, take}
 use Rattle.std.proofs.lemmas.List.{length-take-le}
 use Rattle.c_lexer.specs.Positions.{start, after}
 use Rattle.c_lexer.proofs.PositionLemmas.{after-offset, after_bounded}

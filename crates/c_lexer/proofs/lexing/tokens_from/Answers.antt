@@ -1,7 +1,5 @@
-use Rattle.std.proofs.Common.{◌≡◌, ◌++◌, ◌∷◌, [], sym, ap, subst, ◌∙◌, arith}
-use Rattle.c_lexer.specs.Lexing.{token_at, Lexed, IsFaultOf}
-use Rattle.c_lexer.specs.Positions.{place_of}
-use Rattle.c_lexer.proofs.LexedLemmas.{Completes, completes_none, completes_end, completes_fault, completes_blank, completes_ignored, completes_token, fault_of, moved_by, moved_blank}
+use Rattle.std.proofs.Common.{arith}
+use Rattle.c_lexer.proofs.LexedLemmas.{completes_end, completes_fault, completes_blank, completes_ignored, completes_token, fault_of, moved_by, moved_blank}
 use Rattle.c_lexer.proofs.lexing.tokens_from.Goals as goal
 
 pub returns-in-End-clause-tokens : goal.returns-in-End-clause-tokens

@@ -1,4 +1,4 @@
-use Rattle.std.proofs.Common.{ap, sym, ◌∙◌, arith, get_or}
+use Rattle.std.proofs.Common.{◌∙◌, arith, get_or}
 use Rattle.c_lexer.proofs.PositionLemmas.{step_by, after_drop}
 use Rattle.c_lexer.proofs.position.Position.across.Goals as goal
 

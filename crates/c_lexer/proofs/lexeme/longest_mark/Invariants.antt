@@ -1,6 +1,6 @@
 use Rattle.std.proofs.Common.{◌≡◌, ℕ, ◌≤◌, true, length, take}
 use Rattle.c_lexer.specs.Lexemes.{is_mark}
-use Rattle.c_lexer.proofs.lexeme.mark_len.Given as goal
+use Rattle.c_lexer.proofs.lexeme.longest_mark.Given as goal
 
 abbrev pub invariant-loop-len : goal.invariant-loop-len
 invariant-loop-len l = record {
