@@ -141,7 +141,7 @@ whole_reaches text k n some fits = record { some = some; fits = fits; ordered = 
 
 number_reaches : (text : List ℕ) (r : Result IntSuffix Flaw) (n : ℕ) → 0 < n → n ≤ length text → Reaches text (number_piece r n)
 number_reaches text (Ok s) n some fits = whole_reaches text (kind.Number s) n some fits
-number_reaches text (Err f) n some fits = tt
+number_reaches text (Err f) n some fits = omega arith
 
 lexeme_reaches : (text : List ℕ) (s : Shape) (w : List ℕ) (n : ℕ) → 0 < n → n ≤ length text → Reaches text (lexeme_piece s w n)
 unfolding lexeme_piece
@@ -170,9 +170,9 @@ comment_reaches profile.Ya text past n low le fits = (omega arith, fits)
 close_within : (text : List ℕ) (k : ℕ) → Closes (drop 2 text) k → k + 4 ≤ length text
 close_within text k h = omega (arith, byte_within (drop 2 text) (k + 1) 46 h.slash, length-drop 2 text)
 
-pub block_reaches : (p : Profile) (text : List ℕ) (x : Piece) → IsBlockComment p text x → Reaches text x
-block_reaches p text x (closed k h e) = subst (Reaches text) (sym e) (comment_reaches p text (k + 2) (k + 4) (omega arith) (omega arith) (close_within text k h.here))
-block_reaches p text x (never none e) = subst (Reaches text) (sym e) tt
+pub block_reaches : (p : Profile) (text : List ℕ) (x : Piece) → 0 < length text → IsBlockComment p text x → Reaches text x
+block_reaches p text x some (closed k h e) = subst (Reaches text) (sym e) (comment_reaches p text (k + 2) (k + 4) (omega arith) (omega arith) (close_within text k h.here))
+block_reaches p text x some (never none e) = subst (Reaches text) (sym e) some
 
 line_fits : (text : List ℕ) → length (line_of text) ≤ length text
 line_fits text = omega (arith, length-prefix_len (λ c. not (c == 10)) text, prefix_len-le-length (λ c. not (c == 10)) text)
@@ -200,22 +200,22 @@ line_one (a ∷ rest) h = (IsRun-take_while (λ c. not (c == 10)) (a ∷ rest) (
 marker_within : (text : List ℕ) (b : Bool) → (get_or text 0 0 == 35) ≡ true → b ≡ is_marker (drop 1 (line_of text)) → Reaches text (marker_piece text)
 unfolding marker_piece
 marker_within text true h e = subst (λ b. Reaches text (if b then piece.Ignored (length (line_of text)) else piece.Fault flaw.HashLine)) e (line_one text h, line_fits text)
-marker_within text false h e = subst (λ b. Reaches text (if b then piece.Ignored (length (line_of text)) else piece.Fault flaw.HashLine)) e tt
+marker_within text false h e = subst (λ b. Reaches text (if b then piece.Ignored (length (line_of text)) else piece.Fault flaw.HashLine)) e (omega (arith, line_one text h, line_fits text))
 
 pub marker_reaches : (text : List ℕ) (x : Piece) → (get_or text 0 0 == 35) ≡ true → x ≡ marker_piece text → Reaches text x
 marker_reaches text x h e = subst (Reaches text) (sym e) (marker_within text (is_marker (drop 1 (line_of text))) h refl)
 
-pub lexeme_within : (p : Profile) (text : List ℕ) (x : Piece) → IsLexeme p text x → Reaches text x
-lexeme_within p text x (longest s n l e) = subst (Reaches text) (sym e) (lexeme_reaches text s (take n text) n (begins_some p text s n l.begins) l.begins.fits)
-lexeme_within p text x (missing none e) = subst (Reaches text) (sym e) tt
+pub lexeme_within : (p : Profile) (text : List ℕ) (x : Piece) → 0 < length text → IsLexeme p text x → Reaches text x
+lexeme_within p text x some (longest s n l e) = subst (Reaches text) (sym e) (lexeme_reaches text s (take n text) n (begins_some p text s n l.begins) l.begins.fits)
+lexeme_within p text x some (missing none e) = subst (Reaches text) (sym e) some
 
 reaches_if : (p : Profile) (leads : Bool) (c : ℕ) (cs : List ℕ) (x : Piece) (a b d m : Bool) → opens_line (c ∷ cs) ≡ d → opens_marker p leads (c ∷ cs) ≡ m
     → StandsAt (if a then at_blank else (if b then at_block_comment else (if d then at_line_comment else (if m then at_line_marker else at_lexeme)))) p (c ∷ cs) x → Reaches (c ∷ cs) x
 reaches_if p leads c cs x true b d m f g s = subst (Reaches (c ∷ cs)) (sym s) (omega arith)
-reaches_if p leads c cs x false true d m f g s = block_reaches p (c ∷ cs) x s
+reaches_if p leads c cs x false true d m f g s = block_reaches p (c ∷ cs) x (omega arith) s
 reaches_if p leads c cs x false false true m f g s = line_reaches p (c ∷ cs) x f s
 reaches_if p leads c cs x false false false true f g s = marker_reaches (c ∷ cs) x (left (c == 35) _ g) s
-reaches_if p leads c cs x false false false false f g s = lexeme_within p (c ∷ cs) x s
+reaches_if p leads c cs x false false false false f g s = lexeme_within p (c ∷ cs) x (omega arith) s
 
 pub reaches_of : (p : Profile) (leads : Bool) (text : List ℕ) (x : Piece) → Stands p leads text x → Reaches text x
 unfolding opening

@@ -96,7 +96,8 @@ abbrev pub Reaches : List ℕ → Piece → Type 0
 Reaches text (piece.Blank c) = 0 < length text
 Reaches text (piece.Ignored n) = (0 < n) × (n ≤ length text)
 Reaches text (piece.Token k e) = IsWithin text e
-Reaches text _ = Unit {0}
+Reaches text (piece.Fault f) = 0 < length text
+Reaches text piece.End = Unit {0}
 
 abbrev pub token_at : Position → TokenKind → Extent → Token
 token_at at k e = record { kind = k; first = at.offset + e.first; past = at.offset + e.past; place = place_of at }

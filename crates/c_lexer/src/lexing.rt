@@ -1,6 +1,6 @@
 //! The tokens of C programs, of annotations and of Ya texts.
 
-ghost use Rattle.std.specs.Prelude.{◌≡◌, ◌==◌, ◌||◌, ◌+◌, ◌-◌, ◌^◌, ◌<◌, ◌≤◌, true, None, length, take, drop, IfOk, IfErr};
+ghost use Rattle.std.specs.Prelude.{◌≡◌, ◌==◌, ◌||◌, ◌+◌, ◌^◌, ◌<◌, ◌≤◌, true, None, length, take, drop, IfOk, IfErr};
 ghost use Rattle.c_lexer.specs.LexingLaws.{HasOneLexing, TokensAreSpelled, TokensFollow, TokensAreFew};
 ghost use Rattle.c_lexer.specs.Positions.{start, after};
 ghost use Rattle.c_lexer.specs.Lexing.{Stands, Reaches, token_at, Lexed, IsFaultOf, Tokens, AnnotationTokens, SpecTokens};
@@ -76,7 +76,7 @@ fn tokens_from(
     text: &[u8],
     from: Position,
 ) -> Result<Vec<Token>, LexFault>
-    requires short { length text.now < 2 ^ 32 - 1 }
+    requires short { length text.now < 2 ^ 32 }
     requires within { from.offset ≤ length text.now }
     requires line { from.line ≤ from.offset + 1 }
     requires column { from.column ≤ from.offset + 1 }
@@ -125,7 +125,7 @@ pub fn lex_annotation(
     first: u32,
     past: u32,
 ) -> Result<Vec<Token>, LexFault>
-    requires short { length text.now < 2 ^ 32 - 1 }
+    requires short { length text.now < 2 ^ 32 }
     requires ordered { first ≤ past }
     requires within { past ≤ length text.now }
     ensures tokens { IfOk result (λ v. AnnotationTokens text.now first past v.items None) }

@@ -8,7 +8,7 @@ invariant-loop-tokens l = record {
   within : l.position.offset ≤ length l.text;
   bounded : IsBounded l.position;
   found : Completes l.profile l.text l.fn.from l.position l.leads l.tokens.items;
-  short : length l.text < 2 ^ 32 - 1;
+  short : length l.text < 2 ^ 32;
 }
 
 abbrev pub decreases-loop-tokens : goal.decreases-loop-tokens

@@ -27,7 +27,7 @@ returns-then-opens_block_comment-clause-stands c =
     (sym c.opens_block_comment.ensures ∙ c.if-opens_block_comment.true) c.block_comment.ensures
 
 pub returns-then-opens_block_comment-clause-reaches : goal.returns-then-opens_block_comment-clause-reaches
-returns-then-opens_block_comment-clause-reaches c = o.block_reaches c.args.profile c.args.text.now c.block_comment.result c.block_comment.ensures
+returns-then-opens_block_comment-clause-reaches c = o.block_reaches c.args.profile c.args.text.now c.block_comment.result (some _ (sym c.is_empty.ensures ∙ c.if-is_empty.false)) c.block_comment.ensures
 
 pub returns-then-opens_line_comment-clause-stands : goal.returns-then-opens_line_comment-clause-stands
 returns-then-opens_line_comment-clause-stands c =
@@ -59,4 +59,4 @@ returns-else-opens_line_marker-clause-stands c =
     (ap (λ b. b == 35 && (not (is_specification c.args.profile) && c.args.leads)) (sym c.byte_at-first.ensures) ∙ sym c.opens_line_marker.ensures ∙ c.if-opens_line_marker.false) c.lexeme.ensures
 
 pub returns-else-opens_line_marker-clause-reaches : goal.returns-else-opens_line_marker-clause-reaches
-returns-else-opens_line_marker-clause-reaches c = o.lexeme_within c.args.profile c.args.text.now c.lexeme.result c.lexeme.ensures
+returns-else-opens_line_marker-clause-reaches c = o.lexeme_within c.args.profile c.args.text.now c.lexeme.result (some _ (sym c.is_empty.ensures ∙ c.if-is_empty.false)) c.lexeme.ensures
