@@ -61,13 +61,13 @@ unfolding after
 offset_after [] p = omega arith
 offset_after (c ∷ cs) p = omega (arith, offset_after cs (step p c), step-offset p c)
 
-AllPairs-cons : {X : Type 0} (R : X → X → Type 0) (x : X) (ys : List X) → All (R x) ys → AllPairs R ys → AllPairs R (x ∷ ys)
+pub AllPairs-cons : {X : Type 0} (R : X → X → Type 0) (x : X) (ys : List X) → All (R x) ys → AllPairs R ys → AllPairs R (x ∷ ys)
 AllPairs-cons R x ys h r zero zero d lt le = absurd (omega arith)
 AllPairs-cons R x ys h r zero (suc j) d lt le = h j d (omega arith)
 AllPairs-cons R x ys h r (suc i) zero d lt le = absurd (omega arith)
 AllPairs-cons R x ys h r (suc i) (suc j) d lt le = r i j d (omega arith) (omega arith)
 
-AllPairs-nil : {X : Type 0} (R : X → X → Type 0) → AllPairs R []
+pub AllPairs-nil : {X : Type 0} (R : X → X → Type 0) → AllPairs R []
 AllPairs-nil R i j d lt le = absurd (omega arith)
 
 Any-cons : {X : Type 0} (P : X → Type 0) (x : X) (ys : List X) → Any P ys → Any P (x ∷ ys)
@@ -76,7 +76,7 @@ Any-cons P x ys h = (suc h.0, h.1, omega (arith, h.2), h.3, h.4)
 Any-here : {X : Type 0} (P : X → Type 0) (x : X) (ys : List X) → P x → Any P (x ∷ ys)
 Any-here P x ys h = (0, x, omega arith, refl, h)
 
-AllByRecursion-weaker : {X : Type 0} (P Q : X → Type 0) → ((x : X) → P x → Q x) → (xs : List X) → AllByRecursion P xs → AllByRecursion Q xs
+pub AllByRecursion-weaker : {X : Type 0} (P Q : X → Type 0) → ((x : X) → P x → Q x) → (xs : List X) → AllByRecursion P xs → AllByRecursion Q xs
 AllByRecursion-weaker P Q h [] a = tt
 AllByRecursion-weaker P Q h (x ∷ xs) a = (h x a.0, AllByRecursion-weaker P Q h xs a.1)
 

@@ -42,7 +42,7 @@ mark_at text k m e h = shape_at text mark k m e h
 
 -- ---- names and keywords
 
-identifier_run : (text : List ℕ) (n : ℕ) → is_letter (get_or text 0 0) ≡ true → IsRun is_word text n → is_identifier (take n text) ≡ true
+pub identifier_run : (text : List ℕ) (n : ℕ) → is_letter (get_or text 0 0) ≡ true → IsRun is_word text n → is_identifier (take n text) ≡ true
 unfolding is_identifier
 identifier_run [] n h run = cc
 identifier_run (c ∷ cs) zero h run = absurd (omega (arith, IsRun-some is_word c cs 0 (letter_word c h) run))
@@ -157,7 +157,7 @@ mark_of c h i j = lead_mark c h i (not_backslash c j)
 abbrev pub is_single : ℕ → Bool
 is_single c = list_any (λ b. c == b) (codes ";,(){}=&:")
 
-among_bytes : (test : ℕ → Bool) (bs : List ℕ) (c : ℕ) → list_all test bs ≡ true → list_any (λ b. c == b) bs ≡ true → test c ≡ true
+pub among_bytes : (test : ℕ → Bool) (bs : List ℕ) (c : ℕ) → list_all test bs ≡ true → list_any (λ b. c == b) bs ≡ true → test c ≡ true
 among_bytes test [] c h i = cc
 among_bytes test (b ∷ bs) c h i =
     ⊎_elim (λ e. let same : c ≡ b = grind (arith, nat_tests) in ap test same ∙ left _ _ h) (λ e. among_bytes test bs c (right _ _ h) e) (either (c == b) _ i)

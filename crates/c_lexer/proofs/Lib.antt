@@ -5,3 +5,12 @@ pub mod FrontLemmas
 pub mod PositionLemmas
 pub mod FoundLemmas
 pub mod FirstTokenLaws
+pub mod LeadLemmas
+pub mod LongestLemmas
+pub mod PieceLemmas
+pub mod StringLemmas
+pub mod NumberLemmas
+pub mod OpeningLemmas
+pub mod LexingLaws
+pub mod LexedLemmas
+pub mod SpellingLaws

@@ -1,6 +1,7 @@
 -- How positions move over bytes.
-use Rattle.std.proofs.Common.{◌≡◌, ℕ, suc, ◌+◌, ◌≤◌, Bool, true, false, cond, ◌==◌, List, [], ◌∷◌, ◌++◌, length, refl, ap, ap₂, ◌∙◌, arith}
+use Rattle.std.proofs.Common.{◌≡◌, ℕ, suc, ◌+◌, ◌<◌, ◌≤◌, get_or, drop, sym, Bool, true, false, cond, ◌==◌, List, [], ◌∷◌, ◌++◌, length, refl, ap, ap₂, ◌∙◌, arith}
 use Rattle.std.specs.List.{list_all}
+use Rattle.std.proofs.Math.Seq.{drop-cons}
 use Rattle.std.proofs.lemmas.Bool.Decides.{nat_tests}
 use Rattle.c_lexer.specs.declared.position.Position.{Position}
 use Rattle.c_lexer.specs.Positions.{step, after}
@@ -64,3 +65,34 @@ pub after-append : (p : Position) (xs ys : List ℕ) → after p (xs ++ ys) ≡ 
 unfolding after
 after-append p [] ys = refl
 after-append p (x ∷ xs) ys = after-append (step p x) xs ys
+
+pub after_bounded : (bs : List ℕ) (p : Position) → IsBounded p → IsBounded (after p bs)
+unfolding after
+after_bounded [] p h = h
+after_bounded (c ∷ cs) p h = after_bounded cs (step p c) (step_bounded p c h)
+
+pub after-offset : (bs : List ℕ) (p : Position) → (after p bs).offset ≡ p.offset + length bs
+unfolding after
+after-offset [] p = omega arith
+after-offset (c ∷ cs) p = omega (arith, after-offset cs (step p c), step-offset p c)
+
+-- a byte moves the line by one at most, and the column too, or back to 1
+pub record StepsBy (p q : Position) : Type 0 where
+  pub offset : q.offset ≡ p.offset + 1
+  pub line : q.line ≤ p.line + 1
+  pub column : q.column ≤ p.column + 1
+
+pub step_by : (p : Position) (c : ℕ) → StepsBy p (step p c)
+unfolding step
+step_by p c = of (c == 10)
+  where
+    of : (b : Bool) → StepsBy p (cond b (record { offset = p.offset + 1; line = p.line + 1; column = 1 }) (record { offset = p.offset + 1; line = p.line; column = p.column + 1 }))
+    of true = record { offset = refl; line = omega arith; column = omega arith }
+    of false = record { offset = refl; line = omega arith; column = omega arith }
+
+pub after_drop : (p : Position) (bs : List ℕ) (i : ℕ) → i < length bs → after (step p (get_or bs i 0)) (drop (i + 1) bs) ≡ after p (drop i bs)
+unfolding after
+after_drop p bs i lt =
+    let same : suc i ≡ i + 1 = omega arith in
+    let next : drop (suc i) bs ≡ drop (i + 1) bs = ap (λ j. drop j bs) same in
+    ap (after (step p (get_or bs i 0))) (sym next) ∙ sym (ap (after p) (drop-cons bs i 0 lt))

@@ -3,3 +3,8 @@ pub mod Positions
 pub mod FirstTokens
 pub mod Fronts
 pub mod TokenLaws
+pub mod Lexemes
+pub mod Numbers
+pub mod Comments
+pub mod Lexing
+pub mod LexingLaws

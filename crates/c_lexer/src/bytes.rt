@@ -87,7 +87,7 @@ static KEYWORDS: [&str; 44] = [
     "_Thread_local",
 ];
 
-fn is_among(words: &[&str], word: &[u8]) -> bool
+pub(crate) fn is_among(words: &[&str], word: &[u8]) -> bool
     ensures { result ≡ list_any (λ known. bytes_eq word.now known.now) words.now }
 {
     words.iter().any(|known| word == known.as_bytes())

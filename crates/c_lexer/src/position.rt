@@ -11,8 +11,8 @@ pub struct Position {
 }
 
 impl Position {
-    ghost use Rattle.std.specs.Prelude.{◌≡◌, ◌+◌, ◌^◌, ◌<◌};
-    ghost use Rattle.c_lexer.specs.Positions.{start, step, place_of};
+    ghost use Rattle.std.specs.Prelude.{◌≡◌, ◌+◌, ◌^◌, ◌<◌, length};
+    ghost use Rattle.c_lexer.specs.Positions.{start, step, after, place_of};
 
     /// Where a text begins.
     pub fn start() -> Position
@@ -60,6 +60,21 @@ impl Position {
             line: self.line,
             column: self.column + count,
         }
+    }
+
+    /// The position after these bytes.
+    #[tactic(auto, unfolding(crate::specs::Positions::after))]
+    pub fn across(self, bytes: &[u8]) -> Position
+        requires offset { self.offset + length bytes.now < 2 ^ 64 }
+        requires line { self.line + length bytes.now < 2 ^ 64 }
+        requires column { self.column + length bytes.now + 1 < 2 ^ 64 }
+        ensures { result ≡ after self bytes.now }
+    {
+        let mut position = self;
+        for byte in bytes {
+            position = position.after(*byte);
+        }
+        position
     }
 
     /// The line and the column.
