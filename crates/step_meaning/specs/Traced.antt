@@ -1,4 +1,4 @@
--- Lists of steps that are traced for a core: what every list of first steps of a run has, as far as the list alone shows it.
+-- Lists of steps that are traced for a core: conditions on the activations, memories and values of a list of steps. A list that meets them need not be one of a run.
 -- A law about monitors speaks of all such lists.
 use Rattle.std.specs.Prelude.{◌≡◌, ◌≢◌, ◌↔◌, ℕ, suc, ◌≤◌, ◌<◌, ◌^◌, Bool, true, false, List, [], ◌∷◌, map, length, take, slice_get, Option, Some, None, IsTrue, All, AllPairs}
 use Rattle.step_meaning.specs.declared.value.CType.{CType}

@@ -17,6 +17,7 @@ use Rattle.weave_cli.specs.FirstTask.{NeverWrites, no_automaton, meets, Simulate
 use Rattle.weave_cli.specs.Answers.{IsWovenText}
 use Rattle.weave_cli.proofs.ReadsBack.{reads_back}
 use Rattle.weave_cli.proofs.WovenForm.{woven_fits}
+use Rattle.weave_cli.proofs.KeptProgram.{program_kept}
 use Rattle.weave_cli.proofs.WovenTraces.{Woven}
 use Rattle.weave_cli.proofs.WovenRuns.{FunctionsAlike, all_alike, with_functions, run_woven}
 use Rattle.weave_cli.proofs.WovenSimulates as law
@@ -92,5 +93,6 @@ weaving_of source text w =
       core = first_core (woven p);
       of_source = record { program = p; spelled = w.spelled; task = refl };
       of_text = record { program = woven p; spelled = subst (λ t. IsTextOf mode.Woven t (woven p)) (sym w.laid_out) (reads_back (woven p) (woven_fits p form)); core = refl };
+      keeps = program_kept p;
       simulates = woven_simulates p form;
     }

@@ -12,4 +12,5 @@ pub mod WovenForm
 pub mod WovenTraces
 pub mod WovenRuns
 pub mod WovenSimulates
+pub mod KeptProgram
 pub mod Headline

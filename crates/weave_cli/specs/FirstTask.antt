@@ -1,5 +1,5 @@
 -- The task of a source of the first form: its core, and its property where it has one.
-use Rattle.std.specs.Prelude.{◌≡◌, ℕ, Bool, false, List, Option, Some, None}
+use Rattle.std.specs.Prelude.{◌≡◌, ℕ, Bool, false, List, [], ◌∷◌, map, Option, Some, None}
 use Rattle.std.specs.Option.{option_map}
 use Rattle.std.specs.List.{AllByRecursion}
 use Rattle.step_meaning.specs.declared.value.Value.{Value}
@@ -7,6 +7,9 @@ use Rattle.step_meaning.specs.declared.value.Value.TheVariants as value
 use Rattle.step_meaning.specs.declared.value.NameKind.TheVariants as names
 use Rattle.step_meaning.specs.declared.value.Action.{Action}
 use Rattle.step_meaning.specs.declared.value.Action.TheVariants as act
+use Rattle.step_meaning.specs.declared.stmt.Stmt.{Stmt}
+use Rattle.step_meaning.specs.declared.stmt.Stmt.TheVariants as core
+use Rattle.step_meaning.specs.declared.program.Function.{Function as CoreFunction}
 use Rattle.step_meaning.specs.declared.program.Core.{Core}
 use Rattle.step_meaning.specs.Steps.{Step}
 use Rattle.c_parser.specs.declared.tree.Mode.TheVariants as mode
@@ -15,7 +18,7 @@ use Rattle.c_parser.specs.FirstForm.{IsTextOf}
 use Rattle.weave_cli.specs.FirstCore.{first_core}
 use Rattle.weave_cli.specs.Simulation.{Simulates}
 
--- the pointer reaches a cell of the variable of file scope with this number
+-- the pointer names the variable of file scope with this number
 abbrev pub PointsInto : ℕ → Value → Type 0
 PointsInto x (value.Pointer n o) = (n.kind ≡ names.Global) × (n.index ≡ x)
 PointsInto x _ = ⊥
@@ -53,6 +56,25 @@ no_automaton j = false
 abbrev pub SimulatesTask : Task → Core → Type 0
 SimulatesTask t q = Simulates t.core q (monitor_count t.property) no_automaton (λ j steps. meets t.property steps) (λ j steps. ⊥)
 
+-- the statements of a body without the annotations and the null statements
+abbrev pub program_statements : List Stmt → List Stmt
+program_statements [] = []
+program_statements (core.Empty ∷ ss) = program_statements ss
+program_statements (core.Assert v k r ∷ ss) = program_statements ss
+program_statements (s ∷ ss) = s ∷ program_statements ss
+
+-- a function without what weaving adds to it
+abbrev pub program_function : CoreFunction → CoreFunction
+program_function f = record f { body = option_map program_statements f.body }
+
+-- The variables of file scope with their names and initial values, and each function with its number, name, result, parameters and locals, are those
+-- of the task; so are the statements of each function but for annotations and null statements, also where the function is never called.
+pub record KeepsProgram (source woven : Core) : Type 0 where
+  pub globals : woven.globals ≡ source.globals
+  pub initial : woven.initial ≡ source.initial
+  pub start : woven.start ≡ source.start
+  pub functions : map program_function woven.functions ≡ map program_function source.functions
+
 -- the source is of the first form, and this is its task
 pub record IsTaskOf (source : List ℕ) (t : Task) : Type 0 where
   pub program : Program
@@ -65,10 +87,11 @@ pub record IsCoreOf (text : List ℕ) (q : Core) : Type 0 where
   pub spelled : IsTextOf mode.Woven text program
   pub core : q ≡ first_core program
 
--- the text is of the woven first form, and its core simulates the source's task
+-- the text is of the woven first form, and its core keeps the source's program, simulates it and judges its property
 pub record IsWeavingOf (source text : List ℕ) : Type 0 where
   pub task : Task
   pub core : Core
   pub of_source : IsTaskOf source task
   pub of_text : IsCoreOf text core
+  pub keeps : KeepsProgram task.core core
   pub simulates : SimulatesTask task core
