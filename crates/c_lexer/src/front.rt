@@ -1,12 +1,13 @@
 //! What stands at a place of a text of the first form.
 
 ghost use Rattle.std.specs.Prelude.{◌≡◌, ◌≢◌, ◌==◌, ℕ, ◌<◌, ◌≤◌, true, false, length, drop, slice_index, codes};
-ghost use Rattle.std.specs.List.{list_all, list_any, take_while};
-ghost use Rattle.c_lexer.specs.Bytes.{is_between, is_blank, is_digit, is_letter, is_word, is_number_part};
+ghost use Rattle.std.specs.List.{list_all, list_any};
+ghost use Rattle.c_lexer.specs.Bytes.{is_between, is_blank, is_digit, is_letter};
 ghost use Rattle.c_lexer.specs.FirstTokens.{is_decimal};
 ghost use Rattle.c_lexer.specs.Fronts.{Stands, Reaches};
 
-use crate::bytes::{is_blank, is_digit, is_keyword, is_letter, is_number_part, is_word};
+use crate::bytes::{is_blank, is_digit, is_keyword, is_letter};
+use crate::run::{byte_at, number_run, word_len};
 use crate::token::{IntSuffix, TokenKind};
 
 /// What stands at a place of a text.
@@ -18,29 +19,6 @@ pub(crate) enum Front {
     Token(TokenKind, usize),
     /// Nothing that a text of the form may have there.
     Other,
-}
-
-/// The byte, or 0 past the end.
-fn byte_at(text: &[u8], at: usize) -> u8
-    ensures { result ≡ slice_index text.now at }
-{
-    text.get(at).copied().unwrap_or(0)
-}
-
-/// How many bytes of a name the text begins with.
-fn word_len(text: &[u8]) -> usize
-    ensures { result ≡ length (take_while is_word text.now) }
-{
-    text.iter().take_while(|byte| is_word(**byte)).count()
-}
-
-/// How many bytes of a number the text begins with.
-fn number_len(text: &[u8]) -> usize
-    ensures { result ≡ length (take_while is_number_part text.now) }
-{
-    text.iter()
-        .take_while(|byte| is_number_part(**byte))
-        .count()
 }
 
 fn all_digits(bytes: &[u8]) -> bool
@@ -93,7 +71,7 @@ fn number(text: &[u8]) -> Front
     requires { is_digit (slice_index text.now 0) ≡ true }
     ensures { Stands text.now result }
 {
-    let len = number_len(text);
+    let len = number_run(text);
     if is_decimal(&text[..len]) {
         Front::Token(TokenKind::Number(IntSuffix::Plain), len)
     } else {
