@@ -1,0 +1,41 @@
+use Rattle.std.proofs.Common.{rules, arith}
+use Rattle.std.proofs.lemmas.Grind.{common_steps}
+use Rattle.c_grammar.specs.Operators.{has, continues}
+use Rattle.c_grammar.specs.Parsing.{links_from}
+use Rattle.c_expressions.proofs.Turns.{one_more, no_more}
+use Rattle.c_expressions.proofs.chain.links.Goals as goal
+
+pub returns-then-not-continues : goal.returns-then-not-continues
+unfolding links_from
+returns-then-not-continues g c = λ parser follows.
+    let e = one_more (λ n. links_from (continues c.args.operators) (has c.args.operators) parser n c.loop-turn.found.items c.loop-turn.tokens) _ c.loop-turn._turn c.loop-turn-test.true (c.loop-turn.invariant.1 parser follows) in
+    first_of (search rules, grind (arith, common_steps))
+
+pub returns-in_err-operator : goal.returns-in_err-operator
+unfolding links_from
+returns-in_err-operator g c = λ parser follows.
+    let e = one_more (λ n. links_from (continues c.args.operators) (has c.args.operators) parser n c.loop-turn.found.items c.loop-turn.tokens) _ c.loop-turn._turn c.loop-turn-test.true (c.loop-turn.invariant.1 parser follows) in
+    first_of (search rules, grind (arith, common_steps))
+
+pub returns-in_err-operand : goal.returns-in_err-operand
+unfolding links_from
+returns-in_err-operand g c = λ parser follows.
+    let e = one_more (λ n. links_from (continues c.args.operators) (has c.args.operators) parser n c.loop-turn.found.items c.loop-turn.tokens) _ c.loop-turn._turn c.loop-turn-test.true (c.loop-turn.invariant.1 parser follows) in
+    let read = follows.reads _ _ _ c.in_err-operand.ensures in
+    first_of (search rules, grind (arith, common_steps))
+
+pub loop-turn-preserved : goal.loop-turn-preserved
+unfolding links_from
+loop-turn-preserved g c = (
+  c.loop-turn.invariant.0,
+  λ parser follows.
+      let e = one_more (λ n. links_from (continues c.args.operators) (has c.args.operators) parser n c.loop-turn.found.items c.loop-turn.tokens) _ c.loop-turn._turn c.loop-turn-test.true (c.loop-turn.invariant.1 parser follows) in
+      let read = follows.reads _ _ _ c.in_ok-operand.ensures in
+      first_of (search rules, grind (arith, common_steps)),
+)
+
+pub returns : goal.returns
+unfolding links_from
+returns g c = λ parser follows.
+    let e = no_more (λ n. links_from (continues c.args.operators) (has c.args.operators) parser n c.loop-turn.found.items c.loop-turn.tokens) _ c.loop-turn._turn c.loop-turn-test.false (c.loop-turn.invariant.1 parser follows) in
+    first_of (search rules, grind (arith, common_steps))

@@ -1,0 +1,5 @@
+pub mod TypeReading
+pub mod Grouping
+pub mod ExpressionReading
+pub mod Values
+pub mod Exactness

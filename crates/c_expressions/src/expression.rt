@@ -1,0 +1,499 @@
+//! Expressions. Each rule is a method that takes the parsers of what nests as function values.
+
+ghost use Rattle.std.specs.Prelude.{◌≡◌, [], ◌∷◌, length};
+ghost use Rattle.c_grammar.specs.declared.word.Word.TheVariants as w;
+ghost use Rattle.c_grammar.specs.Words.{same as same_word};
+ghost use Rattle.std.specs.Result.{result_map_both};
+ghost use Rattle.c_grammar.specs.declared.operators.Operators.TheVariants as o;
+ghost use Rattle.c_grammar.specs.Operators.{has, continues};
+ghost use Rattle.c_grammar.specs.Parsing.{Reads, links_from, run_at};
+ghost use Rattle.c_grammar.specs.Follows.{Nests};
+ghost use Rattle.c_expressions.specs.TypeReading as types;
+ghost use Rattle.c_expressions.specs.Grouping as grouping;
+ghost use Rattle.c_expressions.specs.ExpressionReading as spec;
+
+use crate::chain::{chain, links, run};
+use crate::group::{Flat, or_of};
+use crate::types::type_name;
+use c_grammar::chain::{Chain, Link};
+use c_grammar::cursor::{Cursor, same};
+use c_grammar::expression::{Assign, Choice, Or, Postfix, Primary, Suffix, Unary};
+use c_grammar::fault::ParseFault;
+use c_grammar::operators::Operators;
+use c_grammar::types::TypeName;
+use c_grammar::word::{Leaf, Word};
+use sqlite_items::{Boxed, Items};
+use std::alloc::Global;
+
+/// Whether a type begins with the word.
+fn begins_type(word: Word) -> bool
+    ensures { result ≡ types.begins_type word }
+{
+    matches!(
+        word,
+        Word::Void
+            | Word::Struct
+            | Word::Char
+            | Word::Signed
+            | Word::Unsigned
+            | Word::Short
+            | Word::Int
+            | Word::Long
+    )
+}
+
+fn is_cast(first: Word, second: Word) -> bool
+    ensures { result ≡ spec.is_cast first second }
+{
+    same(Word::LeftParen, first) && begins_type(second)
+}
+
+fn is_suffix(word: Word) -> bool
+    ensures { result ≡ spec.is_suffix word }
+{
+    matches!(
+        word,
+        Word::LeftBracket | Word::Dot | Word::Arrow | Word::Increment | Word::Decrement
+    )
+}
+
+/// The parsers of what stands in a position that nests, and how deep that may nest.
+#[derive(Clone, Copy)]
+pub struct Grammar<A, C, U> {
+    pub alloc: Global,
+    pub depth: usize,
+    pub assign: A,
+    pub choice: C,
+    pub unary: U,
+}
+
+impl<
+    A: Fn(Global, &mut Cursor<'_>, usize) -> Result<Assign, ParseFault>,
+    C: Fn(Global, &mut Cursor<'_>, usize) -> Result<Choice, ParseFault>,
+    U: Fn(Global, &mut Cursor<'_>, usize) -> Result<Unary, ParseFault>,
+> Grammar<A, C, U> {
+    #[tactic(auto)]
+    fn nested_assign(&self, tokens: &mut Cursor<'_>) -> Result<Boxed<Assign>, ParseFault>
+        requires { Nests (spec.inner_at self.now.depth).assign self.now.depth (A.pre self.now.assign) (A.post self.now.assign) }
+        ensures { Reads ((spec.inner_at self.now.depth).assign tokens.old) result tokens.new }
+    {
+        let found = (self.assign)(self.alloc, tokens, self.depth)?;
+        Ok(Boxed::new(self.alloc, found)?)
+    }
+
+    #[tactic(auto)]
+    fn nested_choice(&self, tokens: &mut Cursor<'_>) -> Result<Boxed<Choice>, ParseFault>
+        requires { Nests (spec.inner_at self.now.depth).choice self.now.depth (C.pre self.now.choice) (C.post self.now.choice) }
+        ensures { Reads ((spec.inner_at self.now.depth).choice tokens.old) result tokens.new }
+    {
+        let found = (self.choice)(self.alloc, tokens, self.depth)?;
+        Ok(Boxed::new(self.alloc, found)?)
+    }
+
+    #[tactic(auto)]
+    fn nested_unary(&self, tokens: &mut Cursor<'_>) -> Result<Boxed<Unary>, ParseFault>
+        requires { Nests (spec.inner_at self.now.depth).unary self.now.depth (U.pre self.now.unary) (U.post self.now.unary) }
+        ensures { Reads ((spec.inner_at self.now.depth).unary tokens.old) result tokens.new }
+    {
+        let found = (self.unary)(self.alloc, tokens, self.depth)?;
+        Ok(Boxed::new(self.alloc, found)?)
+    }
+
+    #[tactic(auto, unfolding(crate::specs::ExpressionReading::arguments))]
+    fn arguments(&self, tokens: &mut Cursor<'_>) -> Result<Option<Boxed<Chain<Assign>>>, ParseFault>
+        requires { Nests (spec.inner_at self.now.depth).assign self.now.depth (A.pre self.now.assign) (A.post self.now.assign) }
+        ensures { Reads (spec.arguments (spec.inner_at self.now.depth) tokens.old) result tokens.new }
+    {
+        if same(Word::RightParen, tokens.peek()) {
+            return Ok(None);
+        }
+        let operand = |tokens: &mut Cursor<'_>| -> Result<Assign, ParseFault>
+            requires { Nests (spec.inner_at self.now.depth).assign self.now.depth (A.pre self.now.assign) (A.post self.now.assign) }
+            ensures { Reads ((spec.inner_at self.entry.now.depth).assign tokens.old) result tokens.new }
+        { (self.assign)(self.alloc, tokens, self.depth) };
+        let found = chain(self.alloc, tokens, Operators::List, &operand)?;
+        Ok(Some(Boxed::new(self.alloc, found)?))
+    }
+
+    #[tactic(auto, unfolding(crate::specs::ExpressionReading::call))]
+    fn call(&self, tokens: &mut Cursor<'_>, name: Leaf) -> Result<Primary, ParseFault>
+        requires { Nests (spec.inner_at self.now.depth).assign self.now.depth (A.pre self.now.assign) (A.post self.now.assign) }
+        ensures { Reads (spec.call (spec.inner_at self.now.depth) name tokens.old) result tokens.new }
+    {
+        let opening = tokens.expect(Word::LeftParen)?;
+        let found = self.arguments(tokens)?;
+        let closing = tokens.expect(Word::RightParen)?;
+        Ok(Primary::Call(name, opening, found, closing))
+    }
+
+    #[tactic(auto, unfolding(crate::specs::ExpressionReading::named))]
+    fn named(&self, tokens: &mut Cursor<'_>) -> Result<Primary, ParseFault>
+        requires { Nests (spec.inner_at self.now.depth).assign self.now.depth (A.pre self.now.assign) (A.post self.now.assign) }
+        ensures { Reads (spec.named (spec.inner_at self.now.depth) tokens.old) result tokens.new }
+    {
+        let name = tokens.expect(Word::Name)?;
+        if same(Word::LeftParen, tokens.peek()) {
+            self.call(tokens, name)
+        } else {
+            Ok(Primary::Name(name))
+        }
+    }
+
+    #[tactic(auto, unfolding(crate::specs::ExpressionReading::parenthesized))]
+    fn parenthesized(&self, tokens: &mut Cursor<'_>) -> Result<Primary, ParseFault>
+        requires { Nests (spec.inner_at self.now.depth).assign self.now.depth (A.pre self.now.assign) (A.post self.now.assign) }
+        ensures { Reads (spec.parenthesized (spec.inner_at self.now.depth) tokens.old) result tokens.new }
+    {
+        let opening = tokens.expect(Word::LeftParen)?;
+        let found = self.nested_assign(tokens)?;
+        let closing = tokens.expect(Word::RightParen)?;
+        Ok(Primary::Paren(opening, found, closing))
+    }
+
+    #[tactic(auto, using(crate::proofs::Depths::deep_none, crate::proofs::Depths::deep_some))]
+    fn deep_parenthesized(&self, tokens: &mut Cursor<'_>) -> Result<Primary, ParseFault>
+        requires { Nests (spec.inner_at self.now.depth).assign self.now.depth (A.pre self.now.assign) (A.post self.now.assign) }
+        ensures { Reads (spec.deep (spec.inner_at self.now.depth).depth (spec.parenthesized (spec.inner_at self.now.depth)) tokens.old) result tokens.new }
+    {
+        if self.depth == 0 {
+            return Err(tokens.refuse());
+        }
+        self.parenthesized(tokens)
+    }
+
+    #[tactic(auto, unfolding(crate::specs::ExpressionReading::primary))]
+    fn primary(&self, tokens: &mut Cursor<'_>) -> Result<Primary, ParseFault>
+        requires { Nests (spec.inner_at self.now.depth).assign self.now.depth (A.pre self.now.assign) (A.post self.now.assign) }
+        ensures { Reads (spec.primary (spec.inner_at self.now.depth) tokens.old) result tokens.new }
+    {
+        match tokens.peek() {
+            Word::Name => self.named(tokens),
+            Word::Number => Ok(Primary::Number(tokens.expect(Word::Number)?)),
+            Word::Character => Ok(Primary::Character(tokens.expect(Word::Character)?)),
+            Word::LeftParen => self.deep_parenthesized(tokens),
+            _ => Err(tokens.refuse()),
+        }
+    }
+
+    #[tactic(auto, unfolding(crate::specs::ExpressionReading::index))]
+    fn index(&self, tokens: &mut Cursor<'_>) -> Result<Suffix, ParseFault>
+        requires { Nests (spec.inner_at self.now.depth).assign self.now.depth (A.pre self.now.assign) (A.post self.now.assign) }
+        ensures { Reads (spec.index (spec.inner_at self.now.depth) tokens.old) result tokens.new }
+    {
+        let opening = tokens.expect(Word::LeftBracket)?;
+        let found = self.nested_assign(tokens)?;
+        let closing = tokens.expect(Word::RightBracket)?;
+        Ok(Suffix::Index(opening, found, closing))
+    }
+
+    #[tactic(auto, using(crate::proofs::Depths::deep_none, crate::proofs::Depths::deep_some))]
+    fn deep_index(&self, tokens: &mut Cursor<'_>) -> Result<Suffix, ParseFault>
+        requires { Nests (spec.inner_at self.now.depth).assign self.now.depth (A.pre self.now.assign) (A.post self.now.assign) }
+        ensures { Reads (spec.deep (spec.inner_at self.now.depth).depth (spec.index (spec.inner_at self.now.depth)) tokens.old) result tokens.new }
+    {
+        if self.depth == 0 {
+            return Err(tokens.refuse());
+        }
+        self.index(tokens)
+    }
+
+    #[tactic(auto, unfolding(crate::specs::ExpressionReading::suffix))]
+    fn suffix(&self, tokens: &mut Cursor<'_>) -> Result<Suffix, ParseFault>
+        requires { Nests (spec.inner_at self.now.depth).assign self.now.depth (A.pre self.now.assign) (A.post self.now.assign) }
+        ensures { Reads (spec.suffix (spec.inner_at self.now.depth) tokens.old) result tokens.new }
+    {
+        match tokens.peek() {
+            Word::LeftBracket => self.deep_index(tokens),
+            Word::Dot => member(tokens),
+            Word::Arrow => arrow(tokens),
+            Word::Increment => Ok(Suffix::Increment(tokens.expect(Word::Increment)?)),
+            Word::Decrement => Ok(Suffix::Decrement(tokens.expect(Word::Decrement)?)),
+            _ => Err(tokens.refuse()),
+        }
+    }
+
+    #[tactic(auto)]
+    fn suffixes(&self, tokens: &mut Cursor<'_>) -> Result<Items<Suffix>, ParseFault>
+        requires { Nests (spec.inner_at self.now.depth).assign self.now.depth (A.pre self.now.assign) (A.post self.now.assign) }
+        ensures { Reads (run_at spec.is_suffix (spec.suffix (spec.inner_at self.now.depth)) tokens.old) result tokens.new }
+    {
+        let begins = |word: Word| -> bool
+            ensures { result ≡ spec.is_suffix word }
+        { is_suffix(word) };
+        let suffix = |tokens: &mut Cursor<'_>| -> Result<Suffix, ParseFault>
+            requires { Nests (spec.inner_at self.now.depth).assign self.now.depth (A.pre self.now.assign) (A.post self.now.assign) }
+            ensures { Reads (spec.suffix (spec.inner_at self.entry.now.depth) tokens.old) result tokens.new }
+        { self.suffix(tokens) };
+        run(self.alloc, tokens, &begins, &suffix)
+    }
+
+    #[tactic(auto, unfolding(crate::specs::ExpressionReading::postfix))]
+    fn postfix(&self, tokens: &mut Cursor<'_>) -> Result<Postfix, ParseFault>
+        requires { Nests (spec.inner_at self.now.depth).assign self.now.depth (A.pre self.now.assign) (A.post self.now.assign) }
+        ensures { Reads (spec.postfix (spec.inner_at self.now.depth) tokens.old) result tokens.new }
+    {
+        let primary = self.primary(tokens)?;
+        let suffixes = self.suffixes(tokens)?;
+        Ok(Postfix { primary, suffixes })
+    }
+
+    #[tactic(auto, unfolding(crate::specs::ExpressionReading::prefix))]
+    fn prefix(&self, tokens: &mut Cursor<'_>) -> Result<Unary, ParseFault>
+        requires { Nests (spec.inner_at self.now.depth).unary self.now.depth (U.pre self.now.unary) (U.post self.now.unary) }
+        ensures { Reads (spec.prefix (spec.inner_at self.now.depth) tokens.old) result tokens.new }
+    {
+        let operator = tokens.operator(Operators::Prefix)?;
+        let operand = self.nested_unary(tokens)?;
+        Ok(Unary::Prefix(operator, operand))
+    }
+
+    #[tactic(auto, using(crate::proofs::Depths::deep_none, crate::proofs::Depths::deep_some))]
+    fn deep_prefix(&self, tokens: &mut Cursor<'_>) -> Result<Unary, ParseFault>
+        requires { Nests (spec.inner_at self.now.depth).unary self.now.depth (U.pre self.now.unary) (U.post self.now.unary) }
+        ensures { Reads (spec.deep (spec.inner_at self.now.depth).depth (spec.prefix (spec.inner_at self.now.depth)) tokens.old) result tokens.new }
+    {
+        if self.depth == 0 {
+            return Err(tokens.refuse());
+        }
+        self.prefix(tokens)
+    }
+
+    fn cast_type(&self, tokens: &mut Cursor<'_>) -> Result<Boxed<TypeName>, ParseFault>
+        ensures { Reads (types.type_name self.now.depth tokens.old) result tokens.new }
+    {
+        let found = type_name(self.alloc, tokens, self.depth)?;
+        Ok(Boxed::new(self.alloc, found)?)
+    }
+
+    #[tactic(auto, unfolding(crate::specs::ExpressionReading::cast), using(crate::proofs::Depths::inner_depth))]
+    fn cast(&self, tokens: &mut Cursor<'_>) -> Result<Unary, ParseFault>
+        requires { Nests (spec.inner_at self.now.depth).unary self.now.depth (U.pre self.now.unary) (U.post self.now.unary) }
+        ensures { Reads (spec.cast (spec.inner_at self.now.depth) tokens.old) result tokens.new }
+    {
+        let opening = tokens.expect(Word::LeftParen)?;
+        let kind = self.cast_type(tokens)?;
+        let closing = tokens.expect(Word::RightParen)?;
+        let operand = self.nested_unary(tokens)?;
+        Ok(Unary::Cast(opening, kind, closing, operand))
+    }
+
+    #[tactic(auto, using(crate::proofs::Depths::deep_none, crate::proofs::Depths::deep_some))]
+    fn deep_cast(&self, tokens: &mut Cursor<'_>) -> Result<Unary, ParseFault>
+        requires { Nests (spec.inner_at self.now.depth).unary self.now.depth (U.pre self.now.unary) (U.post self.now.unary) }
+        ensures { Reads (spec.deep (spec.inner_at self.now.depth).depth (spec.cast (spec.inner_at self.now.depth)) tokens.old) result tokens.new }
+    {
+        if self.depth == 0 {
+            return Err(tokens.refuse());
+        }
+        self.cast(tokens)
+    }
+
+    #[tactic(auto, unfolding(crate::specs::ExpressionReading::unary))]
+    fn unary(&self, tokens: &mut Cursor<'_>) -> Result<Unary, ParseFault>
+        requires assign { Nests (spec.inner_at self.now.depth).assign self.now.depth (A.pre self.now.assign) (A.post self.now.assign) }
+        requires unary { Nests (spec.inner_at self.now.depth).unary self.now.depth (U.pre self.now.unary) (U.post self.now.unary) }
+        ensures { Reads (spec.unary (spec.inner_at self.now.depth) tokens.old) result tokens.new }
+    {
+        let first = tokens.peek();
+        if Operators::Prefix.has(first) {
+            self.deep_prefix(tokens)
+        } else if is_cast(first, tokens.second()) {
+            self.deep_cast(tokens)
+        } else {
+            Ok(Unary::Postfix(self.postfix(tokens)?))
+        }
+    }
+
+    /// Binary operators of all levels, each with the operand after it.
+    fn operands(&self, tokens: &mut Cursor<'_>) -> Result<Vec<Link<Unary>>, ParseFault>
+        requires assign { Nests (spec.inner_at self.now.depth).assign self.now.depth (A.pre self.now.assign) (A.post self.now.assign) }
+        requires unary { Nests (spec.inner_at self.now.depth).unary self.now.depth (U.pre self.now.unary) (U.post self.now.unary) }
+        ensures { Reads (links_from (continues o.Binary) (has o.Binary) (spec.unary (spec.inner_at self.now.depth)) (length tokens.old) [] tokens.old)
+            (result_map_both (λ v. v.items) (λ e. e) result) tokens.new }
+    {
+        let operand = |tokens: &mut Cursor<'_>| -> Result<Unary, ParseFault>
+            requires assign { Nests (spec.inner_at self.now.depth).assign self.now.depth (A.pre self.now.assign) (A.post self.now.assign) }
+            requires unary { Nests (spec.inner_at self.now.depth).unary self.now.depth (U.pre self.now.unary) (U.post self.now.unary) }
+            ensures { Reads (spec.unary (spec.inner_at self.entry.now.depth) tokens.old) result tokens.new }
+        { self.unary(tokens) };
+        links(self.alloc, tokens, Operators::Binary, &operand)
+    }
+
+    /// Operands and the binary operators of all levels.
+    #[tactic(auto, unfolding(crate::specs::ExpressionReading::flat, c_grammar::specs::Parsing::chain_by))]
+    fn flat(&self, tokens: &mut Cursor<'_>) -> Result<Flat, ParseFault>
+        requires assign { Nests (spec.inner_at self.now.depth).assign self.now.depth (A.pre self.now.assign) (A.post self.now.assign) }
+        requires unary { Nests (spec.inner_at self.now.depth).unary self.now.depth (U.pre self.now.unary) (U.post self.now.unary) }
+        ensures { Reads (spec.flat (spec.inner_at self.now.depth) tokens.old) result tokens.new }
+    {
+        let first = self.unary(tokens)?;
+        let rest = self.operands(tokens)?;
+        Ok(Flat { first, rest })
+    }
+
+    #[tactic(auto, unfolding(crate::specs::ExpressionReading::choose))]
+    fn choose(&self, tokens: &mut Cursor<'_>, test: Or) -> Result<Choice, ParseFault>
+        requires assign { Nests (spec.inner_at self.now.depth).assign self.now.depth (A.pre self.now.assign) (A.post self.now.assign) }
+        requires choice { Nests (spec.inner_at self.now.depth).choice self.now.depth (C.pre self.now.choice) (C.post self.now.choice) }
+        ensures { Reads (spec.choose (spec.inner_at self.now.depth) test tokens.old) result tokens.new }
+    {
+        let question = tokens.expect(Word::Question)?;
+        let second = self.nested_assign(tokens)?;
+        let colon = tokens.expect(Word::Colon)?;
+        let third = self.nested_choice(tokens)?;
+        Ok(Choice::Choose(test, question, second, colon, third))
+    }
+
+    #[tactic(auto, using(crate::proofs::Depths::deep_none, crate::proofs::Depths::deep_some))]
+    fn deep_choose(&self, tokens: &mut Cursor<'_>, test: Or) -> Result<Choice, ParseFault>
+        requires assign { Nests (spec.inner_at self.now.depth).assign self.now.depth (A.pre self.now.assign) (A.post self.now.assign) }
+        requires choice { Nests (spec.inner_at self.now.depth).choice self.now.depth (C.pre self.now.choice) (C.post self.now.choice) }
+        ensures { Reads (spec.deep (spec.inner_at self.now.depth).depth (spec.choose (spec.inner_at self.now.depth) test) tokens.old) result tokens.new }
+    {
+        if self.depth == 0 {
+            return Err(tokens.refuse());
+        }
+        self.choose(tokens, test)
+    }
+
+    #[tactic(auto, unfolding(crate::specs::ExpressionReading::choice_after))]
+    fn choice_after(&self, tokens: &mut Cursor<'_>, test: Or) -> Result<Choice, ParseFault>
+        requires assign { Nests (spec.inner_at self.now.depth).assign self.now.depth (A.pre self.now.assign) (A.post self.now.assign) }
+        requires choice { Nests (spec.inner_at self.now.depth).choice self.now.depth (C.pre self.now.choice) (C.post self.now.choice) }
+        ensures { Reads (spec.choice_after (spec.inner_at self.now.depth) test tokens.old) result tokens.new }
+    {
+        if same(Word::Question, tokens.peek()) {
+            self.deep_choose(tokens, test)
+        } else {
+            Ok(Choice::Or(test))
+        }
+    }
+
+    #[tactic(auto, unfolding(crate::specs::ExpressionReading::choice))]
+    fn choice(&self, tokens: &mut Cursor<'_>) -> Result<Choice, ParseFault>
+        requires assign { Nests (spec.inner_at self.now.depth).assign self.now.depth (A.pre self.now.assign) (A.post self.now.assign) }
+        requires choice { Nests (spec.inner_at self.now.depth).choice self.now.depth (C.pre self.now.choice) (C.post self.now.choice) }
+        requires unary { Nests (spec.inner_at self.now.depth).unary self.now.depth (U.pre self.now.unary) (U.post self.now.unary) }
+        ensures { Reads (spec.choice (spec.inner_at self.now.depth) tokens.old) result tokens.new }
+    {
+        let found = self.flat(tokens)?;
+        let test = or_of(self.alloc, found)?;
+        self.choice_after(tokens, test)
+    }
+
+    #[tactic(auto, unfolding(crate::specs::ExpressionReading::assigned))]
+    fn assigned(&self, tokens: &mut Cursor<'_>, left: Unary) -> Result<Assign, ParseFault>
+        requires { Nests (spec.inner_at self.now.depth).assign self.now.depth (A.pre self.now.assign) (A.post self.now.assign) }
+        ensures { Reads (spec.assigned (spec.inner_at self.now.depth) left tokens.old) result tokens.new }
+    {
+        let operator = tokens.operator(Operators::Assignment)?;
+        let right = self.nested_assign(tokens)?;
+        Ok(Assign::Assign(left, operator, right))
+    }
+
+    #[tactic(auto, using(crate::proofs::Depths::deep_none, crate::proofs::Depths::deep_some))]
+    fn deep_assigned(&self, tokens: &mut Cursor<'_>, left: Unary) -> Result<Assign, ParseFault>
+        requires { Nests (spec.inner_at self.now.depth).assign self.now.depth (A.pre self.now.assign) (A.post self.now.assign) }
+        ensures { Reads (spec.deep (spec.inner_at self.now.depth).depth (spec.assigned (spec.inner_at self.now.depth) left) tokens.old) result tokens.new }
+    {
+        if self.depth == 0 {
+            return Err(tokens.refuse());
+        }
+        self.assigned(tokens, left)
+    }
+
+    #[tactic(auto, unfolding(crate::specs::ExpressionReading::assign))]
+    fn assign(&self, tokens: &mut Cursor<'_>) -> Result<Assign, ParseFault>
+        requires assign { Nests (spec.inner_at self.now.depth).assign self.now.depth (A.pre self.now.assign) (A.post self.now.assign) }
+        requires choice { Nests (spec.inner_at self.now.depth).choice self.now.depth (C.pre self.now.choice) (C.post self.now.choice) }
+        requires unary { Nests (spec.inner_at self.now.depth).unary self.now.depth (U.pre self.now.unary) (U.post self.now.unary) }
+        ensures { Reads (spec.assign (spec.inner_at self.now.depth) tokens.old) result tokens.new }
+    {
+        let found = self.flat(tokens)?;
+        if !Operators::Assignment.has(tokens.peek()) {
+            let test = or_of(self.alloc, found)?;
+            return Ok(Assign::Choice(self.choice_after(tokens, test)?));
+        }
+        let Flat { first, rest } = found;
+        if rest.is_empty() {
+            self.deep_assigned(tokens, first)
+        } else {
+            Err(tokens.refuse())
+        }
+    }
+}
+
+#[tactic(auto, unfolding(crate::specs::ExpressionReading::member))]
+fn member(tokens: &mut Cursor<'_>) -> Result<Suffix, ParseFault>
+    ensures { Reads (spec.member tokens.old) result tokens.new }
+{
+    let dot = tokens.expect(Word::Dot)?;
+    let name = tokens.expect(Word::Name)?;
+    Ok(Suffix::Member(dot, name))
+}
+
+#[tactic(auto, unfolding(crate::specs::ExpressionReading::arrow))]
+fn arrow(tokens: &mut Cursor<'_>) -> Result<Suffix, ParseFault>
+    ensures { Reads (spec.arrow tokens.old) result tokens.new }
+{
+    let sign = tokens.expect(Word::Arrow)?;
+    let name = tokens.expect(Word::Name)?;
+    Ok(Suffix::Arrow(sign, name))
+}
+
+/// An expression that nests below the number.
+#[cycle(level)]
+#[tactic(auto, unfolding(crate::specs::ExpressionReading::inner_at))]
+pub fn assign(alloc: Global, tokens: &mut Cursor<'_>, depth: usize) -> Result<Assign, ParseFault>
+    ensures { Reads ((spec.inner_at depth).assign tokens.old) result tokens.new }
+{
+    if depth == 0 {
+        return Err(tokens.refuse());
+    }
+    Grammar {
+        alloc,
+        depth: depth - 1,
+        assign,
+        choice,
+        unary,
+    }
+    .assign(tokens)
+}
+
+/// A conditional expression that nests below the number.
+#[cycle(level)]
+#[tactic(auto, unfolding(crate::specs::ExpressionReading::inner_at))]
+pub fn choice(alloc: Global, tokens: &mut Cursor<'_>, depth: usize) -> Result<Choice, ParseFault>
+    ensures { Reads ((spec.inner_at depth).choice tokens.old) result tokens.new }
+{
+    if depth == 0 {
+        return Err(tokens.refuse());
+    }
+    Grammar {
+        alloc,
+        depth: depth - 1,
+        assign,
+        choice,
+        unary,
+    }
+    .choice(tokens)
+}
+
+/// An operand that nests below the number.
+#[cycle(level)]
+#[tactic(auto, unfolding(crate::specs::ExpressionReading::inner_at))]
+fn unary(alloc: Global, tokens: &mut Cursor<'_>, depth: usize) -> Result<Unary, ParseFault>
+    ensures { Reads ((spec.inner_at depth).unary tokens.old) result tokens.new }
+{
+    if depth == 0 {
+        return Err(tokens.refuse());
+    }
+    Grammar {
+        alloc,
+        depth: depth - 1,
+        assign,
+        choice,
+        unary,
+    }
+    .unary(tokens)
+}

@@ -1,0 +1,8 @@
+//! Reading of types and expressions.
+#![tactic(auto)]
+
+pub mod chain;
+pub mod exactness;
+pub mod expression;
+pub mod group;
+pub mod types;

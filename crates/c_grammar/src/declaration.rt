@@ -1,0 +1,62 @@
+//! Declarators, initialisers and parameters (C11 6.7.6, 6.7.9).
+
+use crate::chain::Chain;
+use crate::expression::{Assign, Choice};
+use crate::types::{Base, Star};
+use crate::word::Leaf;
+use sqlite_items::{Boxed, Items};
+
+#[cycle(declarator)]
+#[derive(Drop)]
+pub struct Declarator {
+    pub stars: Items<Star>,
+    pub direct: Direct,
+}
+
+#[cycle(declarator)]
+#[derive(Drop)]
+pub enum Direct {
+    Name(Leaf),
+    /// A name and an empty `[`, `]` right after it.
+    Unsized(Leaf, Leaf, Leaf),
+    Paren(Leaf, Boxed<Declarator>, Leaf),
+    /// `[`, a size, `]` after a declarator.
+    Array(Boxed<Direct>, Leaf, Choice, Leaf),
+}
+
+#[derive(Drop)]
+pub enum Init {
+    Value(Assign),
+    /// `{`, the elements, a last comma, `}`.
+    Braces(Leaf, Boxed<Chain<Init>>, Option<Leaf>, Leaf),
+}
+
+#[derive(Drop)]
+pub enum Declared {
+    Plain(Declarator),
+    /// A declarator, `=` and the initialiser.
+    Initialised(Declarator, Leaf, Init),
+}
+
+/// The sizes of a parameter that has no name, of which the first may be empty.
+#[derive(Drop)]
+pub enum Sizes {
+    Unsized(Leaf, Leaf),
+    First(Leaf, Choice, Leaf),
+    More(Boxed<Sizes>, Leaf, Choice, Leaf),
+}
+
+#[derive(Drop)]
+pub enum Parameter {
+    /// Each `const`, the base, the declarator.
+    Named(Items<Leaf>, Base, Declarator),
+    /// Each `const`, the base, the stars, the sizes.
+    Nameless(Items<Leaf>, Base, Items<Star>, Option<Sizes>),
+}
+
+#[derive(Drop)]
+pub enum Params {
+    Empty,
+    Void(Leaf),
+    List(Chain<Parameter>),
+}

@@ -1,0 +1,43 @@
+//! Programs (C11 6.9).
+
+use crate::chain::Chain;
+use crate::declaration::{Declarator, Declared, Params};
+use crate::statement::Block;
+use crate::types::{Base, Star};
+use crate::word::Leaf;
+use sqlite_items::Items;
+
+/// Each `const`, the base, the declarators, `;`.
+#[derive(Drop)]
+pub struct Member {
+    pub consts: Items<Leaf>,
+    pub base: Base,
+    pub declarators: Chain<Declarator>,
+    pub semicolon: Leaf,
+}
+
+#[derive(Drop)]
+pub enum Body {
+    /// `;`: there is none.
+    Absent(Leaf),
+    Block(Block),
+}
+
+#[derive(Drop)]
+pub enum Item {
+    /// `struct`, the tag, `{`, the members, `}`, what is declared, `;`.
+    Struct(Leaf, Leaf, Leaf, Items<Member>, Leaf, Option<Chain<Declared>>, Leaf),
+    /// Each `static` and `const`, the base, what is declared, `;`.
+    Variables(Items<Leaf>, Base, Chain<Declared>, Leaf),
+    /// Each `static`, `extern` and `const`, the base, the stars, the name, `(`, the parameters, `)`, the body.
+    Function(Items<Leaf>, Base, Items<Star>, Leaf, Leaf, Params, Leaf, Body),
+    /// A rule of a source.
+    Meta(Leaf),
+    /// A ghost variable of a woven text.
+    Ghost(Leaf),
+}
+
+#[derive(Drop)]
+pub struct ProgramTree {
+    pub items: Items<Item>,
+}

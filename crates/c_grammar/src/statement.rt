@@ -1,0 +1,64 @@
+//! Statements (C11 6.8) and the declarations among them.
+
+use crate::chain::Chain;
+use crate::declaration::Declared;
+use crate::expression::Assign;
+use crate::types::Base;
+use crate::word::Leaf;
+use sqlite_items::{Boxed, Items};
+
+/// A declaration in a function.
+#[derive(Drop)]
+pub enum Local {
+    /// Each `const`, the base, what is declared, `;`.
+    Variables(Items<Leaf>, Base, Chain<Declared>, Leaf),
+    /// `register`, the base, what is declared, `;`, in woven texts alone.
+    Registers(Leaf, Base, Chain<Declared>, Leaf),
+}
+
+/// What stands before the first `;` of a `for`, with the `;`.
+#[derive(Drop)]
+pub enum ForFirst {
+    Local(Local),
+    Expression(Option<Assign>, Leaf),
+}
+
+#[cycle(statement)]
+#[derive(Drop)]
+pub enum Stmt {
+    Empty(Leaf),
+    Expression(Assign, Leaf),
+    Block(Boxed<Block>),
+    /// `if`, `(`, the condition, `)`, the statement.
+    If(Leaf, Leaf, Assign, Leaf, Boxed<Stmt>),
+    /// The same, and `else` and its statement.
+    IfElse(Leaf, Leaf, Assign, Leaf, Boxed<Stmt>, Leaf, Boxed<Stmt>),
+    /// `while`, `(`, the condition, `)`, the statement.
+    While(Leaf, Leaf, Assign, Leaf, Boxed<Stmt>),
+    /// `do`, the statement, `while`, `(`, the condition, `)`, `;`.
+    Do(Leaf, Boxed<Stmt>, Leaf, Leaf, Assign, Leaf, Leaf),
+    /// `for`, `(`, the first part, the condition, `;`, the step, `)`, the statement.
+    For(Leaf, Leaf, ForFirst, Option<Assign>, Leaf, Option<Assign>, Leaf, Boxed<Stmt>),
+    Break(Leaf, Leaf),
+    Continue(Leaf, Leaf),
+    Return(Leaf, Option<Assign>, Leaf),
+    /// A ghost annotation of a woven text.
+    Ghost(Leaf),
+    /// An assertion of a woven text.
+    Assert(Leaf),
+}
+
+#[cycle(statement)]
+#[derive(Drop)]
+pub struct Block {
+    pub opening: Leaf,
+    pub parts: Items<BlockPart>,
+    pub closing: Leaf,
+}
+
+#[cycle(statement)]
+#[derive(Drop)]
+pub enum BlockPart {
+    Local(Local),
+    Stmt(Stmt),
+}
