@@ -4,4 +4,5 @@ pub mod ExpressionLaws
 pub mod Turns
 pub mod GroupSteps
 pub mod Depths
+pub mod NestingLaws
 pub mod ExactnessLaws

@@ -2,4 +2,5 @@ pub mod TypeReading
 pub mod Grouping
 pub mod ExpressionReading
 pub mod Values
+pub mod Measuring
 pub mod Exactness

@@ -5,4 +5,5 @@ pub mod chain;
 pub mod exactness;
 pub mod expression;
 pub mod group;
+pub mod nesting;
 pub mod types;

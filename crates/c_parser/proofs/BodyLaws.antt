@@ -2,7 +2,7 @@
 use Rattle.std.proofs.Common.{◌≡◌, ℕ, ◌+◌, ◌≤◌, true, false, List, [], ◌∷◌, ◌++◌, length, Some, refl, sym, ap, subst, arith}
 use Rattle.std.specs.List.{AllByRecursion, flat_map}
 use Rattle.c_parser.specs.declared.fixed.Fixed.TheVariants as fixed
-use Rattle.c_parser.specs.declared.tree.Mode.{Mode}
+use Rattle.c_grammar.specs.declared.word.Mode.{Mode}
 use Rattle.c_parser.specs.declared.tree.FirstStmt.{FirstStmt}
 use Rattle.c_parser.specs.Spelling.{Word, statement_words, declaration_words}
 use Rattle.c_parser.specs.FirstForm.{StatementFits}

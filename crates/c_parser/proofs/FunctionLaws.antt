@@ -3,7 +3,7 @@ use Rattle.std.proofs.Common.{◌≡◌, ℕ, ◌+◌, true, false, List, [], �
 use Rattle.std.specs.Prelude.{codes}
 use Rattle.std.specs.List.{AllByRecursion, flat_map}
 use Rattle.c_parser.specs.declared.fixed.Fixed.TheVariants as fixed
-use Rattle.c_parser.specs.declared.tree.Mode.{Mode}
+use Rattle.c_grammar.specs.declared.word.Mode.{Mode}
 use Rattle.c_parser.specs.Program.{Function}
 use Rattle.c_parser.specs.Spelling.{Word, names_of, statement_words, function_words, main_words, named, keyword, mark, number as number_word}
 use Rattle.c_parser.specs.FirstForm.{StatementFits}

@@ -13,3 +13,6 @@ pub mod Taking
 pub mod TokenFacts
 pub mod WholeLaws
 pub mod WordFacts
+pub mod ItemWords
+pub mod ItemLaws
+pub mod TreeLaws

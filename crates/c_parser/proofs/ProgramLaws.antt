@@ -6,8 +6,8 @@ use Rattle.std.proofs.lemmas.Bool.{and_parts}
 use Rattle.std.proofs.lemmas.List.{map-append}
 use Rattle.c_parser.specs.declared.fixed.Fixed.{Fixed}
 use Rattle.c_parser.specs.declared.fixed.Fixed.TheVariants as fixed
-use Rattle.c_parser.specs.declared.tree.Mode.{Mode}
-use Rattle.c_parser.specs.declared.tree.Mode.TheVariants as mode
+use Rattle.c_grammar.specs.declared.word.Mode.{Mode}
+use Rattle.c_grammar.specs.declared.word.Mode.TheVariants as mode
 use Rattle.c_parser.specs.declared.tree.FirstStmt.{FirstStmt}
 use Rattle.c_parser.specs.declared.tree.FirstStmt.TheVariants as stmt
 use Rattle.c_parser.specs.Program.{Function, Property}

@@ -1,7 +1,7 @@
 -- Each item that is read counts.
 use Rattle.std.proofs.Common.{◌≡◌, ℕ, ◌<◌, ◌≤◌, List, ◌++◌, length, take, drop, Option, Some, arith}
 use Rattle.std.proofs.lemmas.List.{take-append-drop, length-take-le}
-use Rattle.c_parser.specs.declared.tree.Mode.{Mode}
+use Rattle.c_grammar.specs.declared.word.Mode.{Mode}
 use Rattle.c_parser.specs.declared.tree.FirstStmt.{FirstStmt}
 use Rattle.c_parser.specs.Program.{Function, Property}
 use Rattle.c_parser.specs.Reading.{Left, next_statement, declaration, function, optional_property}

@@ -5,8 +5,8 @@ use Rattle.std.specs.Str.{bytes_eq}
 use Rattle.c_lexer.specs.declared.token.TokenKind.TheVariants as kind
 use Rattle.c_lexer.specs.declared.token.Token.{Token}
 use Rattle.c_lexer.specs.FirstTokens.{is_token, AreTokensOf}
-use Rattle.c_parser.specs.declared.tree.Mode.{Mode}
-use Rattle.c_parser.specs.declared.tree.Mode.TheVariants as mode
+use Rattle.c_grammar.specs.declared.word.Mode.{Mode}
+use Rattle.c_grammar.specs.declared.word.Mode.TheVariants as mode
 use Rattle.c_parser.specs.declared.tree.FirstStmt.{FirstStmt}
 use Rattle.c_parser.specs.declared.tree.FirstStmt.TheVariants as stmt
 use Rattle.c_parser.specs.Program.{Function, Property, Program}

@@ -4,3 +4,4 @@ pub mod FixedWords
 pub mod FirstForm
 pub mod Reading
 pub mod Lexemes
+pub mod ItemReading

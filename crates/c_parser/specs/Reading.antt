@@ -9,8 +9,8 @@ use Rattle.c_parser.specs.declared.fault.Fault.{Fault}
 use Rattle.c_parser.specs.declared.fault.Fault.TheVariants as fault
 use Rattle.c_parser.specs.declared.fixed.Fixed.{Fixed}
 use Rattle.c_parser.specs.declared.fixed.Fixed.TheVariants as fixed
-use Rattle.c_parser.specs.declared.tree.Mode.{Mode}
-use Rattle.c_parser.specs.declared.tree.Mode.TheVariants as mode
+use Rattle.c_grammar.specs.declared.word.Mode.{Mode}
+use Rattle.c_grammar.specs.declared.word.Mode.TheVariants as mode
 use Rattle.c_parser.specs.declared.tree.FirstStmt.{FirstStmt}
 use Rattle.c_parser.specs.declared.tree.FirstStmt.TheVariants as stmt
 use Rattle.c_parser.specs.Program.{Function, Property, Program}

@@ -18,7 +18,8 @@ use crate::names::Names;
 use crate::reader::Reader;
 use crate::scope::Scope;
 use crate::statement::{body, variable};
-use crate::tree::{FirstFunction, FirstProperty, FirstTree, Mode};
+use crate::tree::{FirstFunction, FirstProperty, FirstTree};
+use c_grammar::word::Mode;
 use c_lexer::Token;
 use std::alloc::{AllocError, Global};
 

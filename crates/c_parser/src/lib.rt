@@ -4,12 +4,21 @@
 mod fault;
 mod first_form;
 mod fixed;
+mod item;
 mod lexeme;
+mod look;
 mod names;
+#[cfg(test)]
+mod part_tests;
+mod program;
 mod reader;
 mod scope;
 mod statement;
+#[cfg(test)]
+mod tests;
 mod tree;
 
+pub use c_grammar::word::Mode;
 pub use first_form::{first_tree, one_program};
-pub use tree::{FirstFunction, FirstProperty, FirstStmt, FirstTree, Mode};
+pub use program::{one_tree, parse_program};
+pub use tree::{FirstFunction, FirstProperty, FirstStmt, FirstTree};

@@ -3,7 +3,7 @@ ghost use Rattle.std.specs.Prelude.{◌≡◌, ◌<◌, ◌^◌, length};
 ghost use Rattle.c_parser.specs.Reading as spec;
 
 use crate::names::Names;
-use crate::tree::Mode;
+use c_grammar::word::Mode;
 
 /// The variables' names and then those of the functions so far.
 #[derive(Drop)]

@@ -7,7 +7,8 @@ use crate::fault::Fault;
 use crate::fixed::Fixed;
 use crate::reader::Reader;
 use crate::scope::Scope;
-use crate::tree::{FirstStmt, Mode};
+use crate::tree::FirstStmt;
+use c_grammar::word::Mode;
 use std::alloc::Global;
 
 #[tactic(auto, unfolding(crate::specs::Reading::variable))]

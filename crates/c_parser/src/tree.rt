@@ -1,12 +1,5 @@
 //! The trees of the first form.
 
-/// Whose texts are read: those of a source, or those that weaving writes.
-#[derive(Clone, Copy, Debug, PartialEq, Eq)]
-pub enum Mode {
-    Source,
-    Woven,
-}
-
 /// A program of the first form. Variables and functions are named by their places in `globals` and in `functions`, from 0.
 #[derive(Drop)]
 pub struct FirstTree {

@@ -8,7 +8,7 @@ use Rattle.c_lexer.specs.declared.token.Token.{Token}
 use Rattle.c_lexer.specs.FirstTokens.{AreTokensOf}
 use Rattle.c_lexer.proofs.FirstTokenLaws.{one_token_list}
 use Rattle.c_parser.specs.declared.tree.FirstTree.{FirstTree}
-use Rattle.c_parser.specs.declared.tree.Mode.TheVariants as mode
+use Rattle.c_grammar.specs.declared.word.Mode.TheVariants as mode
 use Rattle.c_parser.specs.Program.{Program}
 use Rattle.c_parser.specs.FirstForm.{Spells}
 use Rattle.weave_cli.specs.Answers.{IsFirstProgram}

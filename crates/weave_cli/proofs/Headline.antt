@@ -7,7 +7,7 @@ use Rattle.step_meaning.specs.declared.program.Core.{Core}
 use Rattle.step_meaning.specs.declared.program.Function.{Function as CoreFunction}
 use Rattle.step_meaning.specs.Steps.{steps}
 use Rattle.step_meaning.specs.Runs.{run}
-use Rattle.c_parser.specs.declared.tree.Mode.TheVariants as mode
+use Rattle.c_grammar.specs.declared.word.Mode.TheVariants as mode
 use Rattle.c_parser.specs.Program.{Function, Property, Program}
 use Rattle.c_parser.specs.FirstForm.{BodiesFit, IsFirstForm, IsTextOf}
 use Rattle.weave_cli.specs.FirstCore.{core_functions, getchar, putchar, first_core}

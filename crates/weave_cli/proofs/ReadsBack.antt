@@ -7,7 +7,7 @@ use Rattle.c_lexer.specs.Bytes.{is_keyword, keywords}
 use Rattle.c_lexer.specs.FirstTokens.{is_token, is_identifier}
 use Rattle.c_lexer.specs.Positions.{after}
 use Rattle.c_lexer.proofs.ListLemmas.{left}
-use Rattle.c_parser.specs.declared.tree.Mode.TheVariants as mode
+use Rattle.c_grammar.specs.declared.word.Mode.TheVariants as mode
 use Rattle.c_parser.specs.Program.{Function, Property, Program}
 use Rattle.c_parser.specs.Spelling.{names_of, declaration_words, optional_property_words, functions_words, program_words}
 use Rattle.c_parser.specs.FirstForm.{is_name, is_free_name, PropertyFits, IsFirstForm, IsTextOf}

@@ -18,7 +18,7 @@ use Rattle.step_meaning.specs.Calls.{annotations, after_annotations, with_argume
 use Rattle.step_meaning.specs.Runs.{run}
 use Rattle.c_parser.specs.declared.tree.FirstStmt.{FirstStmt}
 use Rattle.c_parser.specs.declared.tree.FirstStmt.TheVariants as stmt
-use Rattle.c_parser.specs.declared.tree.Mode.TheVariants as mode
+use Rattle.c_grammar.specs.declared.word.Mode.TheVariants as mode
 use Rattle.c_parser.specs.Program.{Function}
 use Rattle.c_parser.specs.FirstForm.{StatementFits, BodiesFit}
 use Rattle.weave_cli.specs.FirstCore.{int, core_statements, return_zero, core_function, void_function, core_functions, getchar, putchar}

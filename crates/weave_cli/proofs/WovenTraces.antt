@@ -19,7 +19,7 @@ use Rattle.step_meaning.specs.Accesses.{write_at}
 use Rattle.step_meaning.specs.Statements.{Completion, exec_all}
 use Rattle.c_parser.specs.declared.tree.FirstStmt.{FirstStmt}
 use Rattle.c_parser.specs.declared.tree.FirstStmt.TheVariants as stmt
-use Rattle.c_parser.specs.declared.tree.Mode.TheVariants as mode
+use Rattle.c_grammar.specs.declared.word.Mode.TheVariants as mode
 use Rattle.c_parser.specs.FirstForm.{StatementFits}
 use Rattle.weave_cli.specs.FirstCore.{int, separated, core_statements}
 use Rattle.weave_cli.specs.Weaving.{woven_statements}

@@ -1,0 +1,8 @@
+pub mod DeclaratorShapes
+pub mod NestingLaws
+pub mod BracketLaws
+pub mod DeclaratorLaws
+pub mod DeclaredLaws
+pub mod SizesLaws
+pub mod ParameterLaws
+pub mod ExactnessLaws

@@ -1,0 +1,29 @@
+use Rattle.std.proofs.Common.{rules, arith}
+use Rattle.std.proofs.lemmas.Grind.{common_steps}
+use Rattle.c_expressions.proofs.Turns.{one_more, no_more}
+use Rattle.c_declarations.specs.ParameterReading.{sizes_from}
+use Rattle.c_declarations.proofs.sizes.next_sizes.Goals as goal
+
+pub returns-then-not-sizes_fit : goal.returns-then-not-sizes_fit
+unfolding sizes_from
+returns-then-not-sizes_fit c =
+    let e = one_more (λ n. sizes_from c.args.inside n c.loop-turn.found c.loop-turn.tokens) _ c.loop-turn._turn c.loop-turn-test.true c.loop-turn.invariant in
+    first_of (search rules, grind (arith, common_steps))
+
+pub returns-in_err-found : goal.returns-in_err-found
+unfolding sizes_from
+returns-in_err-found c =
+    let e = one_more (λ n. sizes_from c.args.inside n c.loop-turn.found c.loop-turn.tokens) _ c.loop-turn._turn c.loop-turn-test.true c.loop-turn.invariant in
+    first_of (search rules, grind (arith, common_steps))
+
+pub loop-turn-preserved : goal.loop-turn-preserved
+unfolding sizes_from
+loop-turn-preserved c =
+    let e = one_more (λ n. sizes_from c.args.inside n c.loop-turn.found c.loop-turn.tokens) _ c.loop-turn._turn c.loop-turn-test.true c.loop-turn.invariant in
+    first_of (search rules, grind (arith, common_steps))
+
+pub returns : goal.returns
+unfolding sizes_from
+returns c =
+    let e = no_more (λ n. sizes_from c.args.inside n c.loop-turn.found c.loop-turn.tokens) _ c.loop-turn._turn c.loop-turn-test.false c.loop-turn.invariant in
+    first_of (search rules, grind (arith, common_steps))

@@ -1,0 +1,6 @@
+pub mod Held
+pub mod Brackets
+pub mod DeclaratorReading
+pub mod DeclaredReading
+pub mod ParameterReading
+pub mod Exactness

@@ -1,0 +1,148 @@
+//! What a declaration declares.
+
+ghost use Rattle.std.specs.Prelude.{◌≡◌, [], false};
+ghost use Rattle.c_grammar.specs.Declarations as grammar;
+ghost use Rattle.c_grammar.specs.Parsing.{Reads};
+ghost use Rattle.c_declarations.specs.DeclaratorReading.{declarator_from};
+ghost use Rattle.c_declarations.specs.DeclaredReading as spec;
+ghost use Rattle.c_declarations.specs.Held.{ReadsAfter};
+
+use crate::declarator::declarator;
+use crate::held::{then_expect, unless_refused};
+use crate::init::then_init;
+use c_expressions::chain::chain;
+use c_grammar::chain::Chain;
+use c_grammar::cursor::{Cursor, same};
+use c_grammar::declaration::{Declarator, Declared, Direct};
+use c_grammar::fault::ParseFault;
+use c_grammar::operators::Operators;
+use c_grammar::word::Word;
+use sqlite_items::Items;
+use std::alloc::Global;
+
+#[cycle(emptiness)]
+#[tactic(auto, using(crate::proofs::NestingLaws::unsized_name, crate::proofs::NestingLaws::unsized_empty, crate::proofs::NestingLaws::unsized_paren, crate::proofs::NestingLaws::unsized_array))]
+fn direct_is_unsized(tree: &Direct) -> bool
+    ensures { result ≡ (grammar.direct_shape tree.now).unsized }
+{
+    match tree {
+        Direct::Name(_) => false,
+        Direct::Unsized(_, _, _) => true,
+        Direct::Paren(_, inside, _) => is_unsized(inside.get()),
+        Direct::Array(before, _, _, _) => direct_is_unsized(before.get()),
+    }
+}
+
+/// Whether the `[ ]` right after the name is empty.
+#[cycle(emptiness)]
+#[tactic(auto, using(crate::proofs::NestingLaws::unsized_declarator))]
+fn is_unsized(tree: &Declarator) -> bool
+    ensures { result ≡ grammar.is_unsized tree.now }
+{
+    direct_is_unsized(&tree.direct)
+}
+
+#[tactic(auto, unfolding(crate::specs::DeclaredReading::initialised))]
+fn initialised(
+    alloc: Global,
+    tokens: &mut Cursor<'_>,
+    depth: usize,
+    declarator: Declarator,
+) -> Result<Declared, ParseFault>
+    ensures { Reads (spec.initialised depth declarator tokens.old) result tokens.new }
+{
+    let (declarator, equals) = then_expect(declarator, tokens, Word::Assign)?;
+    let (held, value) = then_init((declarator, equals), alloc, tokens, depth)?;
+    let (declarator, equals) = held;
+    Ok(Declared::Initialised(declarator, equals, value))
+}
+
+/// A declarator without initialiser, whose `[ ]` are not empty.
+fn plain(tokens: &Cursor<'_>, declarator: Declarator) -> Result<Declared, ParseFault>
+    ensures { Reads (spec.plain declarator tokens.now) result tokens.now }
+{
+    let refused = is_unsized(&declarator);
+    let declarator = unless_refused(declarator, tokens, refused)?;
+    Ok(Declared::Plain(declarator))
+}
+
+#[tactic(auto, unfolding(crate::specs::DeclaredReading::after_declarator))]
+fn after_declarator(
+    alloc: Global,
+    tokens: &mut Cursor<'_>,
+    depth: usize,
+    declarator: Declarator,
+) -> Result<Declared, ParseFault>
+    ensures { Reads (spec.after_declarator depth declarator tokens.old) result tokens.new }
+{
+    if same(Word::Assign, tokens.peek()) {
+        initialised(alloc, tokens, depth, declarator)
+    } else {
+        plain(tokens, declarator)
+    }
+}
+
+/// What is declared, and nests below `depth`.
+#[tactic(auto, unfolding(crate::specs::DeclaredReading::declared))]
+fn declared(alloc: Global, tokens: &mut Cursor<'_>, depth: usize) -> Result<Declared, ParseFault>
+    ensures { Reads (spec.declared depth tokens.old) result tokens.new }
+{
+    let found = declarator(alloc, tokens, true, depth, Items::new(alloc))?;
+    after_declarator(alloc, tokens, depth, found)
+}
+
+/// What a declaration declares, one after another, each nesting below `depth`.
+#[tactic(auto, unfolding(crate::specs::DeclaredReading::all_declared))]
+pub fn all_declared(
+    alloc: Global,
+    tokens: &mut Cursor<'_>,
+    depth: usize,
+) -> Result<Chain<Declared>, ParseFault>
+    ensures { Reads (spec.all_declared depth tokens.old) result tokens.new }
+{
+    let operand = |tokens: &mut Cursor<'_>| -> Result<Declared, ParseFault>
+        ensures { Reads (spec.declared depth tokens.old) result tokens.new }
+    { declared(alloc, tokens, depth) };
+    chain(alloc, tokens, Operators::List, &operand)
+}
+
+/// Declarators whose `[ ]` are not empty, one after another, each nesting below `depth`.
+#[tactic(auto, unfolding(crate::specs::DeclaredReading::declarators))]
+pub fn declarators(
+    alloc: Global,
+    tokens: &mut Cursor<'_>,
+    depth: usize,
+) -> Result<Chain<Declarator>, ParseFault>
+    ensures { Reads (spec.declarators depth tokens.old) result tokens.new }
+{
+    let operand = |tokens: &mut Cursor<'_>| -> Result<Declarator, ParseFault>
+        ensures { Reads (declarator_from false depth [] tokens.old) result tokens.new }
+    { declarator(alloc, tokens, false, depth, Items::new(alloc)) };
+    chain(alloc, tokens, Operators::List, &operand)
+}
+
+/// What a declaration declares, where `held` was read before.
+pub fn then_all_declared<T: Drop>(
+    held: T,
+    alloc: Global,
+    tokens: &mut Cursor<'_>,
+    depth: usize,
+) -> Result<(T, Chain<Declared>), ParseFault>
+    ensures { ReadsAfter held (spec.all_declared depth tokens.old) result tokens.new }
+{
+    let found = all_declared(alloc, tokens, depth)?;
+    Ok((held, found))
+}
+
+/// Declarators, where `held` was read before.
+pub fn then_declarators<T: Drop>(
+    held: T,
+    alloc: Global,
+    tokens: &mut Cursor<'_>,
+    depth: usize,
+) -> Result<(T, Chain<Declarator>), ParseFault>
+    ensures { ReadsAfter held (spec.declarators depth tokens.old) result tokens.new }
+{
+    let found = declarators(alloc, tokens, depth)?;
+    Ok((held, found))
+}

@@ -1,0 +1,12 @@
+//! Reading of declarators, initialisers and parameters.
+#![tactic(auto)]
+
+pub mod bracket;
+pub mod declarator;
+pub mod declared;
+pub mod exactness;
+pub mod fits;
+pub mod held;
+pub mod init;
+pub mod parameter;
+pub mod sizes;

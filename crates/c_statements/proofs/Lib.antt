@@ -1,0 +1,9 @@
+pub mod Deep
+pub mod Turns
+pub mod Levels
+pub mod StatementShapes
+pub mod LocalLaws
+pub mod StatementSoundness
+pub mod StatementCompleteness
+pub mod StatementLaws
+pub mod ExactnessLaws

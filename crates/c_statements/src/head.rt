@@ -1,0 +1,26 @@
+//! What stands before the body of a statement.
+
+use c_grammar::expression::Assign;
+use c_grammar::statement::ForFirst;
+use c_grammar::word::Leaf;
+
+/// A word, and a condition in parentheses.
+#[derive(Drop)]
+pub struct Head {
+    pub first: Leaf,
+    pub opening: Leaf,
+    pub test: Assign,
+    pub closing: Leaf,
+}
+
+/// `for`, and what stands in parentheses after it.
+#[derive(Drop)]
+pub struct Control {
+    pub first: Leaf,
+    pub opening: Leaf,
+    pub start: ForFirst,
+    pub test: Option<Assign>,
+    pub semicolon: Leaf,
+    pub step: Option<Assign>,
+    pub closing: Leaf,
+}
