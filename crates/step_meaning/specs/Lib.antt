@@ -1,6 +1,7 @@
 pub mod Numbers
 pub mod Names
 pub mod Types
+pub mod Settings
 pub mod Memory
 pub mod Steps
 pub mod State
