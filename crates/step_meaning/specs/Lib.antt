@@ -21,3 +21,14 @@ pub mod Erasure
 pub mod StepViews
 pub mod Bounded
 pub mod Traced
+pub mod Conversions
+pub mod TypeRules
+pub mod ExpressionTypes
+pub mod AnnotationRules
+pub mod StatementRules
+pub mod InitialValues
+pub mod Identifiers
+pub mod WellFormed
+pub mod Sizes
+pub mod Normal
+pub mod Printable

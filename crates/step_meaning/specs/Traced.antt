@@ -1,6 +1,6 @@
 -- Lists of steps that are traced for a core: conditions on the activations, memories and values of a list of steps. A list that meets them need not be one of a run.
 -- A law about monitors speaks of all such lists.
-use Rattle.std.specs.Prelude.{◌≡◌, ◌≢◌, ◌↔◌, ℕ, suc, ◌≤◌, ◌<◌, ◌^◌, Bool, true, false, List, [], ◌∷◌, map, length, take, slice_get, Option, Some, None, IsTrue, All, AllPairs}
+use Rattle.std.specs.Prelude.{◌≡◌, ◌≢◌, ◌↔◌, ℕ, suc, ◌≤◌, ◌<◌, ◌^◌, Bool, true, false, List, [], ◌∷◌, map, length, slice_get, Option, Some, None, IsTrue, All, AllPairs}
 use Rattle.step_meaning.specs.declared.value.CType.{CType}
 use Rattle.step_meaning.specs.declared.value.CType.TheVariants as type
 use Rattle.step_meaning.specs.declared.value.NameKind.{NameKind}
@@ -18,6 +18,7 @@ use Rattle.step_meaning.specs.Numbers.{is_in_range}
 use Rattle.step_meaning.specs.Memory.{Memory, Frame, Slot, Block, empty_block, frame_of}
 use Rattle.step_meaning.specs.Steps.{Step}
 use Rattle.step_meaning.specs.Limits.{is_enter}
+use Rattle.step_meaning.specs.ExpressionTypes.{parameter_types}
 
 -- ---- values
 
@@ -99,9 +100,6 @@ ResultHasType type.Void None = Unit {0}
 ResultHasType type.Void (Some v) = ⊥
 ResultHasType t None = ⊥
 ResultHasType t (Some v) = HasType t v
-
-abbrev pub parameter_types : Function → List CType
-parameter_types f = map (λ d. d.ctype) (take f.params f.locals)
 
 -- arguments and results have the function's types
 abbrev pub ActionHasTypes : Function → Action → Type 0
