@@ -9,3 +9,7 @@ pub mod EdgeCases
 pub mod Products
 pub mod TracedExamples
 pub mod Frames
+pub mod WellFormedExamples
+pub mod ExpressionTypeExamples
+pub mod IllFormedExamples
+pub mod NormalExamples
