@@ -13,3 +13,9 @@ pub mod WellFormedExamples
 pub mod ExpressionTypeExamples
 pub mod IllFormedExamples
 pub mod NormalExamples
+mod Ranges
+mod OperatorRanges
+mod TypedMemory
+mod Kept
+mod TypedAccesses
+mod TypedOperators

@@ -1,6 +1,7 @@
 -- What the statements of a function's body keep (C11 6.8): conditions are integers or pointers, `break` and `continue` stand in loops, `return` has a value exactly where the function has one, and expressions have types.
 -- Ghost code and assertions keep the rules on annotations.
 use Rattle.std.specs.Prelude.{ℕ, Bool, true, false, ◌&&◌, nat_le, List, [], ◌∷◌, slice_get, Option, Some, None, IsTrue}
+use Rattle.std.specs.List.{AllByRecursion}
 use Rattle.step_meaning.specs.declared.value.CType.{CType}
 use Rattle.step_meaning.specs.declared.value.CType.TheVariants.{Void}
 use Rattle.step_meaning.specs.declared.value.NameKind.TheVariants.{Local}
@@ -73,8 +74,7 @@ module _ (q : Core) (f : Function) where
 
     -- statements of a body, which are in no loop
     abbrev pub AllFit : List Stmt → Type 0
-    AllFit [] = Unit {0}
-    AllFit (s ∷ ss) = StatementFits false s × AllFit ss
+    AllFit ss = AllByRecursion (StatementFits false) ss
 
   -- the annotations that begin a body name no register and, of the function's locals, its parameters alone
   abbrev pub BodyFits : List Stmt → Type 0

@@ -1,7 +1,7 @@
 -- Well-formed programs: those that the text of a program can stand for, with or without annotations (C11 6.4 to 6.9 in the language of this project).
 -- Each condition is a sentence of its own. What a part names exists, since it has a type, a body or initial values only then.
 use Rattle.std.specs.Prelude.{ℕ, Bool, true, false, ◌&&◌, not, ◌==◌, nat_le, List, [], ◌∷◌, ◌++◌, map, length, slice_get, Option, Some, None, IsTrue, codes}
-use Rattle.std.specs.List.{list_all}
+use Rattle.std.specs.List.{list_all, AllByRecursion}
 use Rattle.std.specs.Str.{bytes_eq}
 use Rattle.step_meaning.specs.declared.value.IntKind.TheVariants as kind
 use Rattle.step_meaning.specs.declared.value.CType.{CType}
@@ -17,11 +17,6 @@ use Rattle.step_meaning.specs.ExpressionTypes.{has_body, parameter_types}
 use Rattle.step_meaning.specs.StatementRules.{BodyFits}
 use Rattle.step_meaning.specs.InitialValues.{all_initialised}
 use Rattle.step_meaning.specs.Identifiers.{is_name, are_distinct}
-
--- what is true of each element
-abbrev pub Each : {A : Type 0} → (A → Type 0) → List A → Type 0
-Each P [] = Unit {0}
-Each P (x ∷ xs) = P x × Each P xs
 
 -- what is true of a body, where there is one
 abbrev pub OfBody : (List Stmt → Type 0) → Option (List Stmt) → Type 0
@@ -96,7 +91,7 @@ pub record IsWellFormed (q : Core) : Type 0 where
   -- the program has `main`
   pub main : IsTrue (is_main (slice_get q.functions q.start))
   -- each function is well formed
-  pub functions : Each (IsWellFormedFunction q) q.functions
+  pub functions : AllByRecursion (IsWellFormedFunction q) q.functions
   -- variables of file scope and functions have names, which together are distinct
   pub file_names : IsTrue (list_all is_name (declared_names q.globals ++ map (λ f. f.name) q.functions))
   pub distinct_names : IsTrue (are_distinct (declared_names q.globals ++ map (λ f. f.name) q.functions))
