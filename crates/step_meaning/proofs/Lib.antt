@@ -19,3 +19,4 @@ mod TypedMemory
 mod Kept
 mod TypedAccesses
 mod TypedOperators
+mod TypedPlaces
