@@ -20,3 +20,4 @@ mod Kept
 mod TypedAccesses
 mod TypedOperators
 mod TypedPlaces
+mod TypedExpressions
