@@ -21,3 +21,5 @@ mod TypedAccesses
 mod TypedOperators
 mod TypedPlaces
 mod TypedExpressions
+mod TypedStatements
+mod TypedCalls

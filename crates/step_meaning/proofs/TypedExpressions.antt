@@ -84,7 +84,7 @@ module _ (q : Core) (f : Function) (globals : List (List CType)) (frames : List 
   abbrev pub CallsKeep : Type 0
   CallsKeep = (g : ℕ) → WhereSome (λ fn. (vs : List Value) → InCells (parameter_types fn) vs → CallKeeps globals frames (OfType fn.result) (call g vs)) (called q g)
 
-  null_keeps : (e : Expr) → NullKeeps globals frames register_types here e (eval e)
+  pub null_keeps : (e : Expr) → NullKeeps globals frames register_types here e (eval e)
   null_keeps e h p t = subst (λ e. K (InCell (type.Pointer' p t)) (eval e)) (sym (null_is e h)) (keeps_pure value.Null (tt, tt))
 
   null_is_some : (e : Expr) → is_null e ≡ true → is_some (typing.type_of q own e) ≡ true

@@ -32,3 +32,4 @@ pub mod WellFormed
 pub mod Sizes
 pub mod Normal
 pub mod Printable
+pub mod FaultsHalt
