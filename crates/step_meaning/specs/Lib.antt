@@ -21,3 +21,8 @@ pub mod Erasure
 pub mod StepViews
 pub mod Bounded
 pub mod Traced
+pub mod TermSizes
+pub mod Allowances
+pub mod Intervals
+pub mod TermKinds
+pub mod Annotations
