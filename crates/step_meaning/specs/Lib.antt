@@ -26,3 +26,6 @@ pub mod Allowances
 pub mod Intervals
 pub mod TermKinds
 pub mod Annotations
+pub mod Verdicts
+pub mod Fold
+pub mod FoldSimulation
