@@ -1,5 +1,5 @@
 -- Predicates and ghost code that keep the rules on annotations (ACSL, terms, predicates, ghost variables and statements): the kinds of their terms, their integer constants, and the limit on intervals.
-use Rattle.std.specs.Prelude.{ℕ, List, [], ◌∷◌, Option, Some, None}
+use Rattle.std.specs.Prelude.{Option, Some}
 use Rattle.step_meaning.specs.declared.value.CType.{CType}
 use Rattle.step_meaning.specs.declared.value.CType.TheVariants as type
 use Rattle.step_meaning.specs.declared.value.NameKind.{NameKind}

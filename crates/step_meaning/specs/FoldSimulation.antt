@@ -1,5 +1,5 @@
 -- A woven core simulates its source with the hooks that were woven into it: the same run outside, and the verdicts of each hooks' fold along the source's steps.
-use Rattle.std.specs.Prelude.{◌≡◌, ◌↔◌, ◌≢◌, ℤ, ℕ, ◌≤◌, ◌+◌, List, [], ◌∷◌, length}
+use Rattle.std.specs.Prelude.{◌≡◌, ◌↔◌, ℤ, ℕ, ◌≤◌, List, length}
 use Rattle.std.specs.List.{AllByRecursion, Contains}
 use Rattle.step_meaning.specs.declared.program.Core.{Core}
 use Rattle.step_meaning.specs.declared.program.Hooks.{Hooks}

@@ -1,7 +1,7 @@
 -- Intervals of terms: an interval that holds each value that an integer term may have, and each offset in cells that a pointer term may have.
 -- The interval of a variable is that of its type; that of an operation is computed from the ends of its operands' intervals.
 -- The limit of every integer term, of every offset in cells and of each product of a number and a size is -(2 ^ 127 - 1) to 2 ^ 127 - 1.
-use Rattle.std.specs.Prelude.{ℕ, ◌^◌, ◌-◌, ℤ, pos, ◌+ℤ◌, ◌-ℤ◌, ◌*ℤ◌, neg_ℤ, int_le, if◌then◌else◌, List, length, Option, Some, None, MatchOption}
+use Rattle.std.specs.Prelude.{ℕ, ◌^◌, ◌-◌, ℤ, pos, ◌+ℤ◌, ◌-ℤ◌, ◌*ℤ◌, neg_ℤ, int_le, if◌then◌else◌, List, length, Option, Some, None}
 use Rattle.std.specs.List.{AllByRecursion}
 use Rattle.step_meaning.specs.declared.value.IntKind.{IntKind}
 use Rattle.step_meaning.specs.declared.value.CType.{CType}

@@ -29,3 +29,7 @@ pub mod Annotations
 pub mod Verdicts
 pub mod Fold
 pub mod FoldSimulation
+pub mod TermParts
+pub mod TypePlaceholders
+pub mod Scopes
+pub mod Fit

@@ -10,7 +10,6 @@ use Rattle.step_meaning.specs.declared.expr.IntOp.{IntOp}
 use Rattle.step_meaning.specs.declared.expr.IntOp.TheVariants as op
 use Rattle.step_meaning.specs.declared.expr.CompareOp.{CompareOp}
 use Rattle.step_meaning.specs.declared.expr.CompareOp.TheVariants as comparing
-use Rattle.step_meaning.specs.declared.expr.Variable.{Variable}
 use Rattle.step_meaning.specs.declared.predicate.Term.{Term, end_of-Term, more_of-Term}
 use Rattle.step_meaning.specs.declared.predicate.Term.TheVariants as t
 use Rattle.step_meaning.specs.declared.predicate.TermPlace.{TermPlace, end_of-TermPlace, more_of-TermPlace}

@@ -1,6 +1,6 @@
 -- Sizes of annotations and types: nodes of predicates and terms (ACSL, terms and predicates), the depth of ghost code (ACSL, ghost variables and statements), and the depth of a type (C11 6.2.5).
 -- The nodes of a tree are its values of `Predicate`, `Term`, `TermPlace` and `Location`.
-use Rattle.std.specs.Prelude.{ℕ, zero, suc, ◌+◌, max, List, [], ◌∷◌, Option, Some, None}
+use Rattle.std.specs.Prelude.{ℕ, suc, ◌+◌, max, List, [], ◌∷◌, Option, Some, None}
 use Rattle.step_meaning.specs.declared.value.CType.{CType, end_of-CType, more_of-CType}
 use Rattle.step_meaning.specs.declared.value.CType.TheVariants.{Void, Int, Pointer', Array', Struct}
 use Rattle.step_meaning.specs.declared.predicate.Term.{Term, end_of-Term, more_of-Term}
