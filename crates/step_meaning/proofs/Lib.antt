@@ -9,3 +9,4 @@ pub mod EdgeCases
 pub mod Products
 pub mod TracedExamples
 pub mod Frames
+pub mod AnnotationExamples

@@ -32,6 +32,9 @@ from_to a b = record { low = a; high = b }
 abbrev pub alone : ℤ → Interval
 alone z = from_to z z
 
+abbrev pub IsLimited : Interval → Type 0
+IsLimited i = IsWithin i.low × IsWithin i.high
+
 -- ---- operations on ends
 
 abbrev pub lesser : ℤ → ℤ → ℤ
@@ -115,9 +118,6 @@ module _ (a : Allowed) where
     interval_of_place (p.Index' b (more_of-TermPlace q end_of-TermPlace) c (more_of-Term e end_of-Term) size) = sum (interval_of_place q) (times_size (interval e) size)
 
   -- ---- the limit
-
-  abbrev pub IsLimited : Interval → Type 0
-  IsLimited i = IsWithin i.low × IsWithin i.high
 
   abbrev mutual
     -- the term, its parts and their products keep the limit
