@@ -10,3 +10,4 @@ pub mod Products
 pub mod TracedExamples
 pub mod Frames
 pub mod AnnotationExamples
+pub mod FoldExamples
