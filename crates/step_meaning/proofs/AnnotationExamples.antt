@@ -117,10 +117,10 @@ Fits r = PredicateFits setting nothing_else r
 
 -- ---- the limit at literal ends
 
-limited : (i : Interval) → T (le_z (negsuc (2 ^ 127 - 2)) i.low) → T (le_z i.low (pos (2 ^ 127 - 1))) → T (le_z (negsuc (2 ^ 127 - 2)) i.high) → T (le_z i.high (pos (2 ^ 127 - 1))) → IsLimited i
+pub limited : (i : Interval) → T (le_z (negsuc (2 ^ 127 - 2)) i.low) → T (le_z i.low (pos (2 ^ 127 - 1))) → T (le_z (negsuc (2 ^ 127 - 2)) i.high) → T (le_z i.high (pos (2 ^ 127 - 1))) → IsLimited i
 limited i a b c e = ((le_z_yes a, le_z_yes b), (le_z_yes c, le_z_yes e))
 
-false_is_not_true : false ≡ true → ⊥
+pub false_is_not_true : false ≡ true → ⊥
 false_is_not_true h = cc
 
 -- ---- kinds: what a read and an address give
@@ -335,7 +335,7 @@ valid_null = (refl, tt)
 valid_access : PredicateKinds setting everything (is.Valid (object t.Accessed type.Void)) → ⊥
 valid_access h = h.0
 
-some_is_not_none : {A : Type 0} (a : A) → None ≡ Some a → ⊥
+pub some_is_not_none : {A : Type 0} (a : A) → None ≡ Some a → ⊥
 some_is_not_none a h = cc
 
 -- the ends of a range are integers

@@ -1,13 +1,10 @@
 -- Hooks folded along the steps of small programs, computed.
-use Rattle.std.proofs.Common.{◌≡◌, ℕ, Bool, true, false, refl, List, [], ◌∷◌, length, map, Some, None}
-use Rattle.std.specs.Prelude.{pos, take}
+use Rattle.std.proofs.Common.{◌≡◌, ℕ, Bool, true, false, refl, List, [], ◌∷◌, length, map, None}
+use Rattle.std.specs.Prelude.{pos}
 use Rattle.step_meaning.specs.declared.value.IntKind.TheVariants as kind
-use Rattle.step_meaning.specs.declared.value.CType.{CType}
 use Rattle.step_meaning.specs.declared.value.CType.TheVariants as type
 use Rattle.step_meaning.specs.declared.value.NameKind.{NameKind}
 use Rattle.step_meaning.specs.declared.value.NameKind.TheVariants as names
-use Rattle.step_meaning.specs.declared.value.Value.TheVariants as value
-use Rattle.step_meaning.specs.declared.value.Action.TheVariants as act
 use Rattle.step_meaning.specs.declared.expr.IntOp.TheVariants as op
 use Rattle.step_meaning.specs.declared.expr.CompareOp.TheVariants as comparing
 use Rattle.step_meaning.specs.declared.expr.Variable.{Variable}
@@ -16,25 +13,23 @@ use Rattle.step_meaning.specs.declared.expr.Expr.TheVariants as e
 use Rattle.step_meaning.specs.declared.predicate.Term.{Term, end_of-Term, more_of-Term}
 use Rattle.step_meaning.specs.declared.predicate.Term.TheVariants as t
 use Rattle.step_meaning.specs.declared.predicate.TermPlace.TheVariants as p
-use Rattle.step_meaning.specs.declared.predicate.Location.{Location}
 use Rattle.step_meaning.specs.declared.predicate.Predicate.{Predicate}
 use Rattle.step_meaning.specs.declared.predicate.Predicate.TheVariants as is
-use Rattle.step_meaning.specs.declared.stmt.VerdictKind.TheVariants.{Safe, Accept}
+use Rattle.step_meaning.specs.declared.stmt.VerdictKind.TheVariants.{Safe}
 use Rattle.step_meaning.specs.declared.stmt.GhostStmt.TheVariants.{Set}
 use Rattle.step_meaning.specs.declared.stmt.Stmt.{Stmt, end_of-Stmt, more_of-Stmt}
 use Rattle.step_meaning.specs.declared.stmt.Stmt.TheVariants as s
 use Rattle.step_meaning.specs.declared.program.Core.{Core}
 use Rattle.step_meaning.specs.declared.program.Declared.{Declared}
-use Rattle.step_meaning.specs.declared.program.Function.{Function}
 use Rattle.step_meaning.specs.declared.program.Hooks.{Hooks}
 use Rattle.step_meaning.specs.declared.program.HookPoint.{HookPoint}
 use Rattle.step_meaning.specs.declared.program.HookPlace.{HookPlace}
 use Rattle.step_meaning.specs.declared.program.HookPlace.TheVariants as place
 use Rattle.step_meaning.specs.Steps.{Step, steps}
 use Rattle.step_meaning.specs.Runs.{run}
-use Rattle.step_meaning.specs.Verdicts.{verdicts, verdicts_before}
+use Rattle.step_meaning.specs.Verdicts.{verdicts_before}
 use Rattle.step_meaning.specs.Fold.{fold}
-use Rattle.step_meaning.proofs.Examples.{int, declared, lit, global, local, load, assign, binary, compare, invoke, return, function, program, zero_cell, step_actions, is_verdict, found}
+use Rattle.step_meaning.proofs.Examples.{int, declared, lit, global, local, load, assign, binary, compare, invoke, return, function, program, zero_cell, is_verdict, found}
 
 abbrev pub point : ℕ → HookPlace → List Declared → List Stmt → HookPoint
 point f at saves code = record { function = f; place = at; saves = saves; code = code }

@@ -11,3 +11,4 @@ pub mod TracedExamples
 pub mod Frames
 pub mod AnnotationExamples
 pub mod FoldExamples
+pub mod FitExamples
