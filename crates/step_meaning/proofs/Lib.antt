@@ -12,3 +12,4 @@ pub mod Frames
 pub mod AnnotationExamples
 pub mod FoldExamples
 pub mod FitExamples
+pub mod IntervalEnds

@@ -1,8 +1,9 @@
 -- Intervals of terms: an interval that holds each value that an integer term may have, and each offset in cells that a pointer term may have.
 -- The interval of a variable is that of its type; that of an operation is computed from the ends of its operands' intervals.
 -- The limit of every integer term, of every offset in cells and of each product of a number and a size is -(2 ^ 127 - 1) to 2 ^ 127 - 1.
-use Rattle.std.specs.Prelude.{ℕ, ◌^◌, ◌-◌, ℤ, pos, ◌+ℤ◌, ◌-ℤ◌, ◌*ℤ◌, neg_ℤ, int_le, if◌then◌else◌, List, length, Option, Some, None}
+use Rattle.std.specs.Prelude.{ℕ, ◌^◌, ◌-◌, ℤ, pos, ◌+ℤ◌, ◌-ℤ◌, ◌*ℤ◌, neg_ℤ, List, length, Option, Some, None}
 use Rattle.std.specs.List.{AllByRecursion}
+use Rattle.std.specs.Int.{int_min, int_max}
 use Rattle.step_meaning.specs.declared.value.IntKind.{IntKind}
 use Rattle.step_meaning.specs.declared.value.CType.{CType}
 use Rattle.step_meaning.specs.declared.value.CType.TheVariants as type
@@ -37,12 +38,6 @@ IsLimited i = IsWithin i.low × IsWithin i.high
 
 -- ---- operations on ends
 
-abbrev pub lesser : ℤ → ℤ → ℤ
-lesser a b = if int_le a b then a else b
-
-abbrev pub greater : ℤ → ℤ → ℤ
-greater a b = if int_le a b then b else a
-
 abbrev pub negated : Interval → Interval
 negated i = from_to (neg_ℤ i.high) (neg_ℤ i.low)
 
@@ -55,12 +50,12 @@ difference i j = from_to (i.low -ℤ j.high) (i.high -ℤ j.low)
 abbrev pub product : Interval → Interval → Interval
 product i j =
     from_to
-      (lesser (lesser (i.low *ℤ j.low) (i.low *ℤ j.high)) (lesser (i.high *ℤ j.low) (i.high *ℤ j.high)))
-      (greater (greater (i.low *ℤ j.low) (i.low *ℤ j.high)) (greater (i.high *ℤ j.low) (i.high *ℤ j.high)))
+      (int_min (int_min (i.low *ℤ j.low) (i.low *ℤ j.high)) (int_min (i.high *ℤ j.low) (i.high *ℤ j.high)))
+      (int_max (int_max (i.low *ℤ j.low) (i.low *ℤ j.high)) (int_max (i.high *ℤ j.low) (i.high *ℤ j.high)))
 
 -- the greatest magnitude
 abbrev pub magnitude : Interval → ℤ
-magnitude i = greater (greater i.low (neg_ℤ i.low)) (greater i.high (neg_ℤ i.high))
+magnitude i = int_max (int_max i.low (neg_ℤ i.low)) (int_max i.high (neg_ℤ i.high))
 
 -- a quotient and a remainder are no further from 0 than the dividend
 abbrev pub around_zero : Interval → Interval

@@ -33,3 +33,4 @@ pub mod TermParts
 pub mod TypePlaceholders
 pub mod Scopes
 pub mod Fit
+pub mod FitsBounded
