@@ -13,3 +13,4 @@ pub mod AnnotationExamples
 pub mod FoldExamples
 pub mod FitExamples
 pub mod IntervalEnds
+pub mod FitsBounded
