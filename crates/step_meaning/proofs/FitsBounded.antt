@@ -1,205 +1,168 @@
 -- Predicates and terms that fit are bounded, in each view whose cells, parameters and result hold values of their types.
-use Rattle.std.proofs.Common.{◌≡◌, ℕ, zero, suc, ◌≤◌, ◌<◌, ◌+◌, ◌-◌, ◌^◌, Bool, true, false, cond, ◌&&◌, ◌||◌, ◌==◌, nat_lt, ℤ, pos, negsuc, ◌+ℤ◌, ◌*ℤ◌, neg_ℤ, ◌≤ℤ◌, int_le, List, [], ◌∷◌, length, slice_get, Option, Some, None, option_map, option_and_then, refl, sym, subst, ap, ◌∙◌, arith, ◌⊎◌, inl, inr}
-use Rattle.std.specs.Prelude.{IsTrue}
+use Rattle.std.proofs.Common.{◌≡◌, ℕ, ◌&&◌, pos, ◌+ℤ◌, ◌*ℤ◌, List, [], ◌∷◌, length, Option, Some, None, All, refl, sym, subst, inl, inr}
 use Rattle.std.specs.List.{AllByRecursion}
-use Rattle.std.proofs.lemmas.Int.{ints}
-use Rattle.std.specs.Int.Signed.{≤ℤ_refl, le_z_yes}
-use Rattle.step_meaning.specs.declared.value.CType.{CType, end_of-CType, more_of-CType}
-use Rattle.step_meaning.specs.declared.value.CType.TheVariants as type
-use Rattle.step_meaning.specs.declared.value.Name.{Name}
-use Rattle.step_meaning.specs.declared.value.Value.{Value}
-use Rattle.step_meaning.specs.declared.value.Value.TheVariants as value
-use Rattle.step_meaning.specs.declared.value.Cell.{Cell}
-use Rattle.step_meaning.specs.declared.value.Cell.TheVariants.{Nothing, Holds}
-use Rattle.step_meaning.specs.declared.expr.IntOp.{IntOp}
-use Rattle.step_meaning.specs.declared.expr.IntOp.TheVariants as op
-use Rattle.step_meaning.specs.declared.expr.CompareOp.{CompareOp}
+use Rattle.std.specs.Int.Signed.{le_z_yes}
+use Rattle.std.proofs.lemmas.List.Elements.{All-nil, All-cons}
+use Rattle.step_meaning.specs.declared.value.CType.{CType}
 use Rattle.step_meaning.specs.declared.predicate.Term.{Term, end_of-Term, more_of-Term}
 use Rattle.step_meaning.specs.declared.predicate.Term.TheVariants as t
 use Rattle.step_meaning.specs.declared.predicate.TermPlace.{TermPlace, end_of-TermPlace, more_of-TermPlace}
 use Rattle.step_meaning.specs.declared.predicate.TermPlace.TheVariants as p
 use Rattle.step_meaning.specs.declared.predicate.Location.{Location}
-use Rattle.step_meaning.specs.declared.predicate.Event.{Event}
-use Rattle.step_meaning.specs.declared.predicate.Event.TheVariants as event
 use Rattle.step_meaning.specs.declared.predicate.Predicate.{Predicate, end_of-Predicate, more_of-Predicate}
 use Rattle.step_meaning.specs.declared.predicate.Predicate.TheVariants.{True, False, Not', And', Or', Implies', Iff', Relation, Valid, Separated, Called, Event as IsEvent}
-use Rattle.step_meaning.specs.declared.program.Layout.{Layout}
-use Rattle.step_meaning.specs.Numbers.{least, greatest, is_in_range, is_zero}
 use Rattle.step_meaning.specs.Settings.{Setting}
 use Rattle.step_meaning.specs.Views.{Sight, Reads, now, at_enter}
-use Rattle.step_meaning.specs.Terms.{TermValue, Number, NullPointer, term_value, with_number, with_value, unless_zero, term_operation, term_moved, value_in_cell, read_at, parameter_at, result_at, value_by, place_by}
+use Rattle.step_meaning.specs.Terms.{TermValue, Number, NullPointer, value_by, place_by, value_of}
 use Rattle.step_meaning.specs.Terms as term
 use Rattle.step_meaning.specs.Predicates.{denoted_types}
-use Rattle.step_meaning.specs.Traced.{HasType}
-use Rattle.step_meaning.specs.Bounded.{IsWithin, IsValueWithin, WhereDefined, IsProductWithin, PartsBounded, PlaceBounded, TermBounded, EndsWithin, SpanBounded, LocationBounded, IsBounded}
-use Rattle.step_meaning.specs.Intervals.{Interval, IsLimited, from_to, alone, sum, operation, times_size, any_offset, interval_of_type, interval_if_any, interval, interval_of_place, TermLimited, PlaceLimited, SpanLimited, RangeLimited, LocationLimited, PredicateLimited}
-use Rattle.step_meaning.specs.TermKinds.{Kind, Integer, PointerTo, AnyNull, OfAccess, kind_of_type, where_true, element_type, pointed_type, kind_of_negation, kind_of_operation, kind_of_move, kind_of_read, address_kind, term_kind, place_type, RelationFits, IsObjectType, IsIntegerTerm, RangeFits, LocationFits, IsWholeAccess, SeparableFits, PredicateKinds}
-use Rattle.step_meaning.specs.Annotations.{Allowed, PredicateFits}
-use Rattle.step_meaning.specs.FitsBounded.{AreTyped, IsPointerValue, IsTypedSight, FitsBounded}
-use Rattle.step_meaning.proofs.IntervalEnds.{In, within, in_alone, in_negated, in_sum, in_difference, in_product, in_quotient, in_remainder}
+use Rattle.step_meaning.specs.Bounded.{WhereDefined, PartsBounded, PlaceBounded, TermBounded, EndsWithin, SpanBounded, LocationBounded, IsBounded}
+use Rattle.step_meaning.specs.Intervals.{Interval, IsLimited, alone, sum, times_size, interval, interval_of_place, TermLimited, PlaceLimited, SpanLimited, RangeLimited, LocationLimited, PredicateLimited}
+use Rattle.step_meaning.specs.TermKinds.{Kind, Integer, OfAccess, is_register, is_fixed_place, member_type, element_type, pointed_type, kind_of_read, term_kind, place_type, RangeFits, LocationFits, SeparableFits, PredicateKinds}
+use Rattle.step_meaning.specs.Annotations.{Allowed}
+use Rattle.step_meaning.specs.FitsBounded.{AreTyped, IsTypedSight, FitsBounded}
+use Rattle.step_meaning.proofs.IntervalEnds.{within, in_alone, in_sum, in_product}
+use Rattle.step_meaning.proofs.ValuesInside.{some_is, some_of_bind, some_where, negation_kind, operation_kinds, move_kinds, element_kind, read_place, address_place, relation_kinds, object_kind, Inside, where_defined, product_within, value_inside, place_inside}
 
--- ---- options
+-- ---- what keeps the limit has an interval that does
 
-some_is : {A : Type 0} (a b : A) → Some a ≡ Some b → a ≡ b
-some_is a b e = ap (λ o. held o a) e
-  where
-    held : {A : Type 0} → Option A → A → A
-    held None x = x
-    held (Some y) x = y
+module _ (a : Allowed) where
+  mutual
+    term_limit : (e : Term) → TermLimited a e → IsLimited (interval a e)
+    term_limit (t.Int z) l = l
+    term_limit t.Null l = l
+    term_limit (t.Load q u) l = l.0
+    term_limit (t.Address q u) l = place_limit q l
+    term_limit (t.Neg' b (more_of-Term e end_of-Term)) l = l.0
+    term_limit (t.Arith' o b (more_of-Term e end_of-Term) d (more_of-Term f end_of-Term)) l = l.0
+    term_limit (t.Move' b (more_of-Term e end_of-Term) d (more_of-Term f end_of-Term) size) l = l.0
+    term_limit (t.AtPre q u) l = l.0
+    term_limit t.Accessed l = l
+    term_limit (t.Parameter f i) l = l
+    term_limit (t.Result f) l = l
 
-none_is : {A : Type 0} {P : Type 0} (a : A) → None ≡ Some a → P
-none_is a e = cc
+    place_limit : (q : TermPlace) → PlaceLimited a q → IsLimited (interval_of_place a q)
+    place_limit (p.Own x) l = ((le_z_yes tt, le_z_yes tt), (le_z_yes tt, le_z_yes tt))
+    place_limit (p.Deref' b (more_of-Term e end_of-Term)) l = term_limit e l
+    place_limit (p.Member' b (more_of-TermPlace q end_of-TermPlace) o) l = l.0
+    place_limit (p.Index' b (more_of-TermPlace q end_of-TermPlace) d (more_of-Term e end_of-Term) size) l = l.0
 
-some_of_bind : {A B : Type 0} (f : A → Option B) (o : Option A) (b : B) → option_and_then f o ≡ Some b → (a : A) × (o ≡ Some a) × (f a ≡ Some b)
-some_of_bind f None b e = none_is b e
-some_of_bind f (Some a) b e = (a, refl, e)
+-- ---- ends of ranges
 
-some_of_map : {A B : Type 0} (f : A → B) (o : Option A) (b : B) → option_map f o ≡ Some b → (a : A) × (o ≡ Some a) × (f a ≡ b)
-some_of_map f None b e = none_is b e
-some_of_map f (Some a) b e = (a, refl, some_is (f a) b e)
+ends : (a : Allowed) (s : Sight) (i from to : Interval) (size : ℕ) (x y z : Option TermValue) → SpanLimited a i from to size
+    → ((v : TermValue) → x ≡ Some v → Inside i v) → ((v : TermValue) → y ≡ Some v → Inside from v) → ((v : TermValue) → z ≡ Some v → Inside to v) → EndsWithin s x y z size
+ends a s i from to size (Some (term.PointerTo n o)) (Some (Number b)) (Some (Number c)) l h k m =
+    let first = in_product from (alone (pos size)) b (pos size) (k (Number b) refl) (in_alone (pos size)) in
+    let past = in_product (sum to (alone (pos 1))) (alone (pos size)) (c +ℤ pos 1) (pos size) (in_sum to (alone (pos 1)) c (pos 1) (m (Number c) refl) (in_alone (pos 1))) (in_alone (pos size)) in
+    let base = h (term.PointerTo n o) refl in
+    ( within (times_size from size) (b *ℤ pos size) l.0 first
+    , within (times_size (sum to (alone (pos 1))) size) ((c +ℤ pos 1) *ℤ pos size) l.1 past
+    , within (sum i (times_size from size)) (o +ℤ (b *ℤ pos size)) l.2 (in_sum i (times_size from size) o (b *ℤ pos size) base first)
+    , within (sum i (times_size (sum to (alone (pos 1))) size)) (o +ℤ ((c +ℤ pos 1) *ℤ pos size)) l.3 (in_sum i (times_size (sum to (alone (pos 1))) size) o ((c +ℤ pos 1) *ℤ pos size) base past)
+    )
+ends a s i from to size x y z l h k m = tt
 
-some_of_number : (f : ℤ → Option TermValue) (o : Option TermValue) (v : TermValue) → with_number o f ≡ Some v → (z : ℤ) × (o ≡ Some (Number z)) × (f z ≡ Some v)
-some_of_number f None v e = none_is v e
-some_of_number f (Some (Number z)) v e = (z, refl, e)
-some_of_number f (Some NullPointer) v e = none_is v e
-some_of_number f (Some (term.PointerTo n o)) v e = none_is v e
+-- ---- parts
 
-some_where : {A : Type 0} (b : Bool) (o : Option A) (a : A) → where_true b o ≡ Some a → o ≡ Some a
-some_where true o a e = e
-some_where false o a e = none_is a e
+module _ (g : Setting) (a : Allowed) (s : Sight) (typed : IsTypedSight g a s) where
+  defined : (e : Term) (reads : Reads) → AreTyped reads → (k : Kind) → term_kind g a e ≡ Some k → TermLimited a e → WhereDefined (value_by s e reads)
+  defined e reads h k c l = where_defined (interval a e) (value_by s e reads) (term_limit a e l) (value_inside g a s typed e reads h k c)
 
--- ---- kinds of parts
+  place_defined : (q : TermPlace) (reads : Reads) → AreTyped reads → (u : CType) → place_type g a q ≡ Some u → IsLimited (interval_of_place a q) → WhereDefined (place_by s q reads)
+  place_defined q reads h u c l = where_defined (interval_of_place a q) (place_by s q reads) l (place_inside g a s typed q reads h u c)
 
-negation_kind : (o : Option Kind) (k : Kind) → kind_of_negation o ≡ Some k → o ≡ Some Integer
-negation_kind None k e = none_is k e
-negation_kind (Some Integer) k e = refl
-negation_kind (Some (PointerTo u)) k e = none_is k e
-negation_kind (Some AnyNull) k e = none_is k e
-negation_kind (Some OfAccess) k e = none_is k e
+  mutual
+    parts : (e : Term) (reads : Reads) → AreTyped reads → (k : Kind) → term_kind g a e ≡ Some k → TermLimited a e → PartsBounded s e reads
+    parts (t.Int z) reads h k c l = tt
+    parts t.Null reads h k c l = tt
+    parts (t.Load q u) reads h k c l = let m = read_place g a (place_type g a q) u k c in place_parts q reads h m.0 m.1 l.1
+    parts (t.Address q u) reads h k c l = let m = address_place g a (is_register q) (place_type g a q) u k c in place_parts q reads h m.0 m.1 l
+    parts (t.Neg' b (more_of-Term e end_of-Term)) reads h k c l =
+        let i = negation_kind (term_kind g a e) k c in (defined e reads h Integer i l.1, parts e reads h Integer i l.1)
+    parts (t.Arith' o b (more_of-Term e end_of-Term) d (more_of-Term f end_of-Term)) reads h k c l =
+        let i = operation_kinds o (term_kind g a e) (term_kind g a f) k c in
+        ((defined e reads h Integer i.0 l.1, parts e reads h Integer i.0 l.1), (defined f reads h Integer i.1 l.2, parts f reads h Integer i.1 l.2))
+    parts (t.Move' b (more_of-Term e end_of-Term) d (more_of-Term f end_of-Term) size) reads h k c l =
+        let i = move_kinds g.layouts (term_kind g a e) (term_kind g a f) size k c in
+        ( (defined e reads h i.0.0 i.0.1 l.2, parts e reads h i.0.0 i.0.1 l.2)
+        , (defined f reads h Integer i.1 l.3, parts f reads h Integer i.1 l.3)
+        , product_within (interval a f) (value_by s f reads) size l.1 (value_inside g a s typed f reads h Integer i.1)
+        )
+    parts (t.AtPre q u) reads h k c l =
+        let m = read_place g a (place_type g a q) u k (some_where (a.at_enter && is_fixed_place g a q) (kind_of_read g a (place_type g a q) u) k c) in
+        place_parts q (at_enter s) typed.cells_at_enter m.0 m.1 l.1
+    parts t.Accessed reads h k c l = tt
+    parts (t.Parameter f i) reads h k c l = tt
+    parts (t.Result f) reads h k c l = tt
 
-operation_kinds : (o : IntOp) (a b : Option Kind) (k : Kind) → kind_of_operation o a b ≡ Some k → (a ≡ Some Integer) × (b ≡ Some Integer)
-operation_kinds o (Some Integer) (Some Integer) k e = (refl, refl)
-operation_kinds o None b k e = none_is k e
-operation_kinds o (Some (PointerTo u)) b k e = none_is k e
-operation_kinds o (Some AnyNull) b k e = none_is k e
-operation_kinds o (Some OfAccess) b k e = none_is k e
-operation_kinds o (Some Integer) None k e = none_is k e
-operation_kinds o (Some Integer) (Some (PointerTo u)) k e = none_is k e
-operation_kinds o (Some Integer) (Some AnyNull) k e = none_is k e
-operation_kinds o (Some Integer) (Some OfAccess) k e = none_is k e
+    place_parts : (q : TermPlace) (reads : Reads) → AreTyped reads → (u : CType) → place_type g a q ≡ Some u → PlaceLimited a q → PlaceBounded s q reads
+    place_parts (p.Own x) reads h u c l = tt
+    place_parts (p.Deref' b (more_of-Term e end_of-Term)) reads h u c l =
+        let m = some_of_bind pointed_type (term_kind g a e) u c in (defined e reads h m.0 m.1 l, parts e reads h m.0 m.1 l)
+    place_parts (p.Member' b (more_of-TermPlace q end_of-TermPlace) o) reads h u c l =
+        let m = some_of_bind (λ u. member_type g.layouts u o) (place_type g a q) u c in
+        (place_defined (p.Member' b (more_of-TermPlace q end_of-TermPlace) o) reads h u c l.0, place_parts q reads h m.0 m.1 l.1)
+    place_parts (p.Index' b (more_of-TermPlace q end_of-TermPlace) d (more_of-Term e end_of-Term) size) reads h u c l =
+        let m = some_of_bind (λ u. element_type g.layouts u (term_kind g a e) size) (place_type g a q) u c in
+        let i = element_kind g.layouts m.0 (term_kind g a e) size u m.2 in
+        ( place_defined (p.Index' b (more_of-TermPlace q end_of-TermPlace) d (more_of-Term e end_of-Term) size) reads h u c l.0
+        , place_parts q reads h m.0 m.1 l.2
+        , (defined e reads h Integer i l.3, parts e reads h Integer i l.3)
+        , product_within (interval a e) (value_by s e reads) size l.1 (value_inside g a s typed e reads h Integer i)
+        )
 
-move_kinds : (layouts : List Layout) (a b : Option Kind) (size : ℕ) (k : Kind) → kind_of_move layouts a b size ≡ Some k → ((l : Kind) × (a ≡ Some l)) × (b ≡ Some Integer)
-move_kinds layouts (Some l) (Some Integer) size k e = ((l, refl), refl)
-move_kinds layouts None b size k e = none_is k e
-move_kinds layouts (Some Integer) None size k e = none_is k e
-move_kinds layouts (Some (PointerTo u)) None size k e = none_is k e
-move_kinds layouts (Some AnyNull) None size k e = none_is k e
-move_kinds layouts (Some OfAccess) None size k e = none_is k e
-move_kinds layouts (Some Integer) (Some (PointerTo w)) size k e = none_is k e
-move_kinds layouts (Some (PointerTo u)) (Some (PointerTo w)) size k e = none_is k e
-move_kinds layouts (Some AnyNull) (Some (PointerTo w)) size k e = none_is k e
-move_kinds layouts (Some OfAccess) (Some (PointerTo w)) size k e = none_is k e
-move_kinds layouts (Some Integer) (Some AnyNull) size k e = none_is k e
-move_kinds layouts (Some (PointerTo u)) (Some AnyNull) size k e = none_is k e
-move_kinds layouts (Some AnyNull) (Some AnyNull) size k e = none_is k e
-move_kinds layouts (Some OfAccess) (Some AnyNull) size k e = none_is k e
-move_kinds layouts (Some Integer) (Some OfAccess) size k e = none_is k e
-move_kinds layouts (Some (PointerTo u)) (Some OfAccess) size k e = none_is k e
-move_kinds layouts (Some AnyNull) (Some OfAccess) size k e = none_is k e
-move_kinds layouts (Some OfAccess) (Some OfAccess) size k e = none_is k e
+  term_bounded : (e : Term) (k : Kind) → term_kind g a e ≡ Some k → TermLimited a e → TermBounded s e (now s)
+  term_bounded e k c l = (defined e (now s) typed.cells k c l, parts e (now s) typed.cells k c l)
 
-element_kind : (layouts : List Layout) (u : CType) (o : Option Kind) (size : ℕ) (w : CType) → element_type layouts u o size ≡ Some w → o ≡ Some Integer
-element_kind layouts u (Some Integer) size w e = refl
-element_kind layouts type.Void o size w e = none_is w e
-element_kind layouts (type.Int k) o size w e = none_is w e
-element_kind layouts (type.Pointer' b t) o size w e = none_is w e
-element_kind layouts (type.Struct n) o size w e = none_is w e
-element_kind layouts (type.Array' b (more_of-CType u end_of-CType) n) None size w e = none_is w e
-element_kind layouts (type.Array' b (more_of-CType u end_of-CType) n) (Some (PointerTo x)) size w e = none_is w e
-element_kind layouts (type.Array' b (more_of-CType u end_of-CType) n) (Some AnyNull) size w e = none_is w e
-element_kind layouts (type.Array' b (more_of-CType u end_of-CType) n) (Some OfAccess) size w e = none_is w e
+  -- ---- locations
 
-module _ (g : Setting) (a : Allowed) where
-  read_place : (o : Option CType) (w : CType) (k : Kind) → kind_of_read g a o w ≡ Some k → (u : CType) × (o ≡ Some u)
-  read_place None w k e = none_is k e
-  read_place (Some u) w k e = (u, refl)
+  zero_inside : (v : TermValue) → Some (Number (pos 0)) ≡ Some v → Inside (alone (pos 0)) v
+  zero_inside v e = subst (Inside (alone (pos 0))) (some_is (Number (pos 0)) v e) (in_alone (pos 0))
 
-  address_place : (b : Bool) (o : Option CType) (w : CType) (k : Kind) → address_kind g a b o w ≡ Some k → (u : CType) × (o ≡ Some u)
-  address_place b None w k e = none_is k e
-  address_place b (Some u) w k e = (u, refl)
+  span_bounded : (base : Option TermValue) (i : Interval) (size : ℕ) (span : Option (Term × Term)) → RangeFits g a span → RangeLimited a i span size
+      → ((v : TermValue) → base ≡ Some v → Inside i v) → SpanBounded s base span size
+  span_bounded base i size None f l h = ends a s i (alone (pos 0)) (alone (pos 0)) size base (Some (Number (pos 0))) (Some (Number (pos 0))) l h zero_inside zero_inside
+  span_bounded base i size (Some e) f l h =
+      ( term_bounded e.0 Integer f.0 l.0
+      , term_bounded e.1 Integer f.1 l.1
+      , ends a s i (interval a e.0) (interval a e.1) size base (value_of s e.0) (value_of s e.1) l.2 h
+          (value_inside g a s typed e.0 (now s) typed.cells Integer f.0) (value_inside g a s typed e.1 (now s) typed.cells Integer f.1)
+      )
 
-  relation_kinds : (c : CompareOp) (o r : Option Kind) → RelationFits g a c o r → ((k : Kind) × (o ≡ Some k)) × ((l : Kind) × (r ≡ Some l))
-  relation_kinds c (Some k) (Some l) h = ((k, refl), (l, refl))
-  relation_kinds c None r h = absurd h
-  relation_kinds c (Some k) None h = absurd h
+  location_bounded : (l : Location) (k : Kind) → term_kind g a l.base ≡ Some k → RangeFits g a l.span → LocationLimited a g.layouts l → LocationBounded s l
+  location_bounded l k c f lim =
+      ( term_bounded l.base k c lim.0
+      , subst (λ ls. SpanBounded s (value_of s l.base) l.span (length (denoted_types ls l.ctype))) (sym typed.layouts)
+          (span_bounded (value_of s l.base) (interval a l.base) (length (denoted_types g.layouts l.ctype)) l.span f lim.1 (value_inside g a s typed l.base (now s) typed.cells k c))
+      )
 
-  object_kind : (o : Option Kind) (w : CType) → IsObjectType g a o w → (k : Kind) × (o ≡ Some k)
-  object_kind (Some k) w h = (k, refl)
-  object_kind None w h = absurd h
+  fitting_bounded : (l : Location) → LocationFits g a l → LocationLimited a g.layouts l → LocationBounded s l
+  fitting_bounded l f lim = let k = object_kind g a (term_kind g a l.base) l.ctype f.0 in location_bounded l k.0 k.1 f.1 lim
 
--- ---- values in intervals
+  separable_bounded : (l : Location) → SeparableFits g a l → LocationLimited a g.layouts l → LocationBounded s l
+  separable_bounded l (inl f) lim = fitting_bounded l f lim
+  separable_bounded l (inr w) lim = location_bounded l OfAccess w.0 (subst (RangeFits g a) (sym w.2) tt) lim
 
--- the integer, or the offset of the pointer, is in the interval
-abbrev Inside : Interval → TermValue → Type 0
-Inside i (Number z) = In i z
-Inside i NullPointer = Unit {0}
-Inside i (term.PointerTo n o) = In i o
+  all_bounded : (ls : List Location) → AllByRecursion (SeparableFits g a) ls → AllByRecursion (LocationLimited a g.layouts) ls → All (LocationBounded s) ls
+  all_bounded [] f lim = All-nil (LocationBounded s)
+  all_bounded (l ∷ ls) f lim = All-cons (LocationBounded s) l ls (separable_bounded l f.0 lim.0) (all_bounded ls f.1 lim.1)
 
-inside_limit : (i : Interval) (v : TermValue) → IsLimited i → Inside i v → IsValueWithin v
-inside_limit i (Number z) l h = within i z l h
-inside_limit i NullPointer l h = tt
-inside_limit i (term.PointerTo n o) l h = within i o l h
+  -- ---- predicates
 
-where_defined : (i : Interval) (o : Option TermValue) → IsLimited i → ((v : TermValue) → o ≡ Some v → Inside i v) → WhereDefined o
-where_defined i None l h = tt
-where_defined i (Some v) l h = inside_limit i v l (h v refl)
+  predicate_bounded : (r : Predicate) → PredicateKinds g a r → PredicateLimited a g.layouts r → IsBounded s r
+  predicate_bounded True f l = tt
+  predicate_bounded False f l = tt
+  predicate_bounded (Not' b (more_of-Predicate r end_of-Predicate)) f l = predicate_bounded r f l
+  predicate_bounded (And' b (more_of-Predicate q end_of-Predicate) c (more_of-Predicate r end_of-Predicate)) f l = (predicate_bounded q f.0 l.0, predicate_bounded r f.1 l.1)
+  predicate_bounded (Or' b (more_of-Predicate q end_of-Predicate) c (more_of-Predicate r end_of-Predicate)) f l = (predicate_bounded q f.0 l.0, predicate_bounded r f.1 l.1)
+  predicate_bounded (Implies' b (more_of-Predicate q end_of-Predicate) c (more_of-Predicate r end_of-Predicate)) f l = (predicate_bounded q f.0 l.0, predicate_bounded r f.1 l.1)
+  predicate_bounded (Iff' b (more_of-Predicate q end_of-Predicate) c (more_of-Predicate r end_of-Predicate)) f l = (predicate_bounded q f.0 l.0, predicate_bounded r f.1 l.1)
+  predicate_bounded (Relation c e x) f l =
+      let k = relation_kinds g a c (term_kind g a e) (term_kind g a x) f in (term_bounded e k.0.0 k.0.1 l.0, term_bounded x k.1.0 k.1.1 l.1)
+  predicate_bounded (Valid l) f lim = fitting_bounded l f lim
+  predicate_bounded (Separated ls) f lim = all_bounded ls f.1 lim
+  predicate_bounded (Called x flag) f l = tt
+  predicate_bounded (IsEvent k x) f l = tt
 
-product_within : (i : Interval) (o : Option TermValue) (size : ℕ) → IsLimited (times_size i size) → ((v : TermValue) → o ≡ Some v → Inside i v) → IsProductWithin o size
-product_within i None size l h = tt
-product_within i (Some (Number z)) size l h = within (times_size i size) (z *ℤ pos size) l (in_product i (alone (pos size)) z (pos size) (h (Number z) refl) (in_alone (pos size)))
-product_within i (Some NullPointer) size l h = tt
-product_within i (Some (term.PointerTo n o)) size l h = tt
-
--- ---- values of types
-
-offset_inside : (o : ℕ) → o < 2 ^ 32 → In any_offset (pos o)
-offset_inside o h = record { low = omega (arith, ints); high = omega (arith, ints) }
-
-both_true : (b c : Bool) → b && c ≡ true → (b ≡ true) × (c ≡ true)
-both_true true true e = (refl, refl)
-both_true true false e = absurd (cc)
-both_true false c e = absurd (cc)
-
-le_true : (x y : ℤ) → int_le x y ≡ true → x ≤ℤ y
-le_true x y e = omega (arith, ints)
-
-type_inside : (u : CType) (v : Value) → HasType u v → Inside (interval_of_type u) (term_value v)
-type_inside (type.Int k) (value.Int z) h = let b = both_true (int_le (least k) z) (int_le z (greatest k)) h in record { low = le_true (least k) z b.0; high = le_true z (greatest k) b.1 }
-type_inside (type.Pointer' b u) value.Null h = tt
-type_inside (type.Pointer' b u) (value.Pointer n o) h = offset_inside o h
-type_inside type.Void v h = absurd h
-type_inside (type.Int k) value.Null h = absurd h
-type_inside (type.Int k) (value.Pointer n o) h = absurd h
-type_inside (type.Pointer' b u) (value.Int z) h = absurd h
-type_inside (type.Array' b u n) v h = absurd h
-type_inside (type.Struct n) v h = absurd h
-
-access_inside : (v : Value) → IsPointerValue v → Inside any_offset (term_value v)
-access_inside (value.Int z) h = absurd h
-access_inside value.Null h = tt
-access_inside (value.Pointer n o) h = offset_inside o h
-
-cell_inside : (u : CType) (c : Option Cell) (v : TermValue) → ((w : Value) → c ≡ Some (Holds w) → HasType u w) → value_in_cell c ≡ Some v → Inside (interval_of_type u) v
-cell_inside u None v h e = none_is v e
-cell_inside u (Some Nothing) v h e = none_is v e
-cell_inside u (Some (Holds w)) v h e = subst (Inside (interval_of_type u)) (some_is (term_value w) v e) (type_inside u w (h w refl))
-
-read_inside : (reads : Reads) (u : CType) (p v : TermValue) → AreTyped reads → read_at reads u p ≡ Some v → Inside (interval_of_type u) v
-read_inside reads u (Number z) v h e = none_is v e
-read_inside reads u NullPointer v h e = none_is v e
-read_inside reads u (term.PointerTo n (negsuc o)) v h e = none_is v e
-read_inside reads u (term.PointerTo n (pos o)) v h e = by (nat_lt o (2 ^ 32)) e
-  where
-    by : (b : Bool) → cond b (value_in_cell (reads n o u)) None ≡ Some v → Inside (interval_of_type u) v
-    by true e = cell_inside u (reads n o u) v (λ w. h n o u w) e
-    by false e = none_is v e
+pub fits_bounded : FitsBounded
+fits_bounded = record { terms = λ g a s e k typed c l. term_bounded g a s typed e k c l; predicates = λ g a s r typed f. predicate_bounded g a s typed r f.kinds f.limited }

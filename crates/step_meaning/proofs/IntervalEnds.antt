@@ -1,9 +1,9 @@
 -- The interval of an operation holds its result.
-use Rattle.std.proofs.Common.{◌≡◌, ℕ, zero, suc, ◌≤◌, ◌<◌, ◌+◌, ◌-◌, ◌*◌, ◌/◌, ◌%◌, ◌^◌, ℤ, pos, negsuc, ◌+ℤ◌, ◌-ℤ◌, ◌*ℤ◌, neg_ℤ, ◌≤ℤ◌, int_div, int_rem, unsigned_abs, refl, sym, subst, ap, ◌∙◌, arith, div-le_self, div-add-mod', mul-le-mul_right}
+use Rattle.std.proofs.Common.{◌≡◌, ℕ, zero, suc, ◌≤◌, ◌/◌, ◌%◌, ℤ, pos, negsuc, ◌+ℤ◌, ◌-ℤ◌, ◌*ℤ◌, neg_ℤ, ◌≤ℤ◌, int_div, int_rem, unsigned_abs, refl, arith, div-le_self, div-add-mod', mul-le-mul_right}
 use Rattle.std.proofs.lemmas.Int.{ints, clamps}
 use Rattle.std.specs.Int.{int_min, int_max}
 use Rattle.step_meaning.specs.Bounded.{IsWithin}
-use Rattle.step_meaning.specs.Intervals.{Interval, IsLimited, from_to, alone, negated, sum, difference, product, magnitude, around_zero}
+use Rattle.step_meaning.specs.Intervals.{Interval, IsLimited, from_to, alone, negated, sum, difference, product, around_zero}
 
 -- z is one of the numbers of the interval
 pub record In (i : Interval) (z : ℤ) : Type 0 where

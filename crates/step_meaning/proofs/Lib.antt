@@ -13,4 +13,5 @@ pub mod AnnotationExamples
 pub mod FoldExamples
 pub mod FitExamples
 pub mod IntervalEnds
+pub mod ValuesInside
 pub mod FitsBounded
