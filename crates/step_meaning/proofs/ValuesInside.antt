@@ -24,12 +24,12 @@ use Rattle.step_meaning.specs.Settings.{Setting}
 use Rattle.step_meaning.specs.Views.{Sight, Reads, at_enter}
 use Rattle.step_meaning.specs.Terms.{TermValue, Number, NullPointer, term_value, with_number, with_value, unless_zero, term_operation, term_moved, value_in_cell, read_at, parameter_at, result_at, value_by, place_by}
 use Rattle.step_meaning.specs.Terms as term
-use Rattle.step_meaning.specs.Traced.{HasType}
+use Rattle.step_meaning.specs.Traced.{HasType, IsPointer}
 use Rattle.step_meaning.specs.Bounded.{IsValueWithin, WhereDefined, IsProductWithin}
 use Rattle.step_meaning.specs.Intervals.{Interval, IsLimited, alone, negated, around_zero, sum, operation, times_size, any_offset, interval_of_type, interval_if_any, interval, interval_of_place}
 use Rattle.step_meaning.specs.TermKinds.{Kind, Integer, PointerTo, AnyNull, OfAccess, kind_of_type, where_true, is_register, member_type, element_type, pointed_type, kind_of_negation, kind_of_operation, kind_of_move, kind_of_read, address_kind, term_kind, place_type, RelationFits, IsObjectType}
 use Rattle.step_meaning.specs.Annotations.{Allowed}
-use Rattle.step_meaning.specs.FitsBounded.{AreTyped, IsPointerValue, IsTypedSight}
+use Rattle.step_meaning.specs.FitsBounded.{AreTyped, IsTypedSight}
 use Rattle.step_meaning.proofs.IntervalEnds.{In, within, in_alone, in_negated, in_sum, in_difference, in_product, in_quotient, in_remainder}
 
 -- ---- options
@@ -178,7 +178,7 @@ type_inside (type.Pointer' b u) (value.Int z) h = absurd h
 type_inside (type.Array' b u n) v h = absurd h
 type_inside (type.Struct n) v h = absurd h
 
-access_inside : (v : Value) → IsPointerValue v → Inside any_offset (term_value v)
+access_inside : (v : Value) → IsPointer v → Inside any_offset (term_value v)
 access_inside (value.Int z) h = absurd h
 access_inside value.Null h = tt
 access_inside (value.Pointer n o) h = offset_inside o h

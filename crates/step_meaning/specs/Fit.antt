@@ -24,11 +24,12 @@ use Rattle.step_meaning.specs.declared.program.HookPoint.{HookPoint}
 use Rattle.step_meaning.specs.declared.program.HookPlace.{HookPlace}
 use Rattle.step_meaning.specs.declared.program.HookPlace.TheVariants as place
 use Rattle.step_meaning.specs.Settings.{Setting}
-use Rattle.step_meaning.specs.Traced.{IsFunctionOf, parameter_types}
+use Rattle.step_meaning.specs.Traced.{IsFunctionOf}
 use Rattle.step_meaning.specs.TypePlaceholders.{TypeKeepsRules}
 use Rattle.step_meaning.specs.TermSizes.{type_depth, ghost_depth, term_nodes_as_read, predicate_nodes_as_read}
 use Rattle.step_meaning.specs.TermParts.{Conditions, no_condition, EachInTerm, EachInPredicate, EachInCode}
-use Rattle.step_meaning.specs.Annotations.{Allowed, nothing_else, PredicateFits, GhostFits, IsGhostKind}
+use Rattle.step_meaning.specs.Allowances.{Allowed, nothing_else, type_of_parameter, type_of_result}
+use Rattle.step_meaning.specs.Annotations.{PredicateFits, GhostFits, IsGhostKind}
 use Rattle.step_meaning.specs.Fold.{saves_of}
 
 -- ---- ghost variables
@@ -80,12 +81,6 @@ not_own = record { name = []; ctype = type.Void }
 -- the variables: those of file scope, and the hooks' ghosts
 abbrev pub hook_setting : Core → Hooks → ℕ → Setting
 hook_setting q h f = record { layouts = q.layouts; globals = q.globals; locals = []; registers = []; file_ghosts = replicate h.first not_own ++ h.globals; ghosts = saves_of h.points f }
-
-abbrev pub type_of_parameter : Core → ℕ → ℕ → Option CType
-type_of_parameter q f i = option_and_then (λ fn. slice_get (parameter_types fn) i) (slice_get q.functions f)
-
-abbrev pub type_of_result : Core → ℕ → Option CType
-type_of_result q f = option_map (λ fn. fn.result) (slice_get q.functions f)
 
 -- the accessed pointer at Read and Write, the called function at Call, the parameters of the point's function at Enter and its result at Return
 abbrev pub hook_allowed : Core → HookPoint → Allowed
