@@ -23,3 +23,9 @@ mod TypedPlaces
 mod TypedExpressions
 mod TypedStatements
 mod TypedCalls
+pub mod AnnotationExamples
+pub mod FoldExamples
+pub mod FitExamples
+pub mod IntervalEnds
+pub mod ValuesInside
+pub mod FitsBounded

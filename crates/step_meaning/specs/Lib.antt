@@ -33,3 +33,16 @@ pub mod Sizes
 pub mod Normal
 pub mod Printable
 pub mod FaultsHalt
+pub mod TermSizes
+pub mod Allowances
+pub mod Intervals
+pub mod TermKinds
+pub mod Annotations
+pub mod Verdicts
+pub mod Fold
+pub mod FoldSimulation
+pub mod TermParts
+pub mod TypePlaceholders
+pub mod Scopes
+pub mod Fit
+pub mod FitsBounded

@@ -39,6 +39,12 @@ HasType (type.Pointer' b t) value.Null = Unit {0}
 HasType (type.Pointer' b t) (value.Pointer n o) = o < 2 ^ 32
 HasType _ _ = ⊥
 
+-- null, or a pointer whose offset has 32 bits
+abbrev pub IsPointer : Value → Type 0
+IsPointer (value.Int z) = ⊥
+IsPointer value.Null = Unit {0}
+IsPointer (value.Pointer n o) = o < 2 ^ 32
+
 abbrev pub HaveTypes : List CType → List Value → Type 0
 HaveTypes [] [] = Unit {0}
 HaveTypes (t ∷ ts) (v ∷ vs) = HasType t v × HaveTypes ts vs
@@ -86,6 +92,12 @@ PointsOnlyIntoProgram (act.Read p) = PointsIntoProgram p
 PointsOnlyIntoProgram (act.Write p v) = PointsIntoProgram p
 PointsOnlyIntoProgram _ = Unit {0}
 
+-- an access is at a pointer
+abbrev pub AccessesPointer : Action → Type 0
+AccessesPointer (act.Read p) = IsPointer p
+AccessesPointer (act.Write p v) = IsPointer p
+AccessesPointer _ = Unit {0}
+
 abbrev pub HasBody : Option (List Stmt) → Type 0
 HasBody None = ⊥
 HasBody (Some body) = Unit {0}
@@ -125,6 +137,7 @@ pub record IsStepOf (q : Core) (s : Step) : Type 0 where
   pub memory : IsProgramMemory q s.memory
   pub own_function : NamesOwn s.action s.function
   pub pointers : PointsOnlyIntoProgram s.action
+  pub accesses : AccessesPointer s.action
   pub executed : (f : Function) × IsFunctionOf q s.function f × ActionHasTypes f s.action
   -- the step's own activation is open
   pub is_open : (r : Frame) × (frame_of s.activation s.memory.frames ≡ Some r) × ParametersHold s.action r
