@@ -23,3 +23,5 @@ mod TypedPlaces
 mod TypedExpressions
 mod TypedStatements
 mod TypedCalls
+mod TypedSizes
+pub mod TypedRuns

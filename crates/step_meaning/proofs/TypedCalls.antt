@@ -162,7 +162,7 @@ module _ (q : Core) (globals : List (List CType)) (bound : ℕ) (sizes : SizesFi
   abbrev pub AllCallsKeep : (ℕ → List Value → DirectCall) → Type 0
   AllCallsKeep call = (frames : List Shape) (g : ℕ) → WhereSome (λ fn. (vs : List Value) → InCells (parameter_types fn) vs → CallKeeps globals frames (OfType fn.result) (call g vs)) (called q g)
 
-  keeps_activation : (call : ℕ → List Value → DirectCall) → AllCallsKeep call → (frames : List Shape) (g : ℕ) (fn : Function) (body : List Stmt) (vs : List Value) → IsWellFormedFunction q fn → BodyFits q fn body → ((g == q.start) ≡ true → ReturnFits fn.result (Some (value.Int (pos 0)))) → InCells (parameter_types fn) vs → CallKeeps globals frames (OfType fn.result) (direct.alone (unset_registers fn.registers) (ca.activation direct q bound call g fn body vs))
+  pub keeps_activation : (call : ℕ → List Value → DirectCall) → AllCallsKeep call → (frames : List Shape) (g : ℕ) (fn : Function) (body : List Stmt) (vs : List Value) → IsWellFormedFunction q fn → BodyFits q fn body → ((g == q.start) ≡ true → ReturnFits fn.result (Some (value.Int (pos 0)))) → InCells (parameter_types fn) vs → CallKeeps globals frames (OfType fn.result) (direct.alone (unset_registers fn.registers) (ca.activation direct q bound call g fn body vs))
   keeps_activation call calls frames g fn body vs h fits main arguments = record { by = opened }
     where
       registers : List CType
