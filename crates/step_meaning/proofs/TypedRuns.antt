@@ -1,6 +1,6 @@
 -- A fault that ends a run of a well-formed program is a Halt step.
 use Rattle.std.proofs.Common.{◌≡◌, ℕ, zero, suc, ◌<◌, ◌^◌, Bool, true, false, cond, ◌&&◌, not, List, [], ◌∷◌, length, map, take, Option, Some, None, refl, sym, ap, subst, ◌∙◌, arith}
-use Rattle.std.specs.Prelude.{◌==◌, ℤ, pos, slice_get, option_map, option_and_then, is_some, nat_lt, nat_le, IsTrue, codes}
+use Rattle.std.specs.Prelude.{◌==◌, ℤ, pos, slice_get, option_map, option_and_then, is_some, nat_le, IsTrue}
 use Rattle.std.specs.List.{list_all}
 use Rattle.std.proofs.lemmas.Bool.{eqb-true, leb-true}
 use Rattle.step_meaning.specs.declared.value.CType.{CType, end_of-CType, more_of-CType}
@@ -12,23 +12,22 @@ use Rattle.step_meaning.specs.declared.value.Value.TheVariants as value
 use Rattle.step_meaning.specs.declared.value.Cell.TheVariants.{Nothing}
 use Rattle.step_meaning.specs.declared.stmt.Stmt.{Stmt}
 use Rattle.step_meaning.specs.declared.program.Declared.{Declared}
-use Rattle.step_meaning.specs.declared.program.Layout.{Layout}
 use Rattle.step_meaning.specs.declared.program.Function.{Function}
 use Rattle.step_meaning.specs.declared.program.Core.{Core}
 use Rattle.step_meaning.specs.Names.{same_kind}
 use Rattle.step_meaning.specs.Types.{same_type, object_cells}
-use Rattle.step_meaning.specs.Memory.{Block, Slot, empty_block, filled}
+use Rattle.step_meaning.specs.Memory.{Slot, filled}
 use Rattle.step_meaning.specs.Steps.{Item, End, Exit, Fault, More, Trace, Stop, Then}
-use Rattle.step_meaning.specs.Flow.{direct, DirectCall, World, CallGives, Returned, Ended}
+use Rattle.step_meaning.specs.Flow.{direct, DirectCall, CallGives, Returned, Ended}
 use Rattle.step_meaning.specs.Calls as ca
-use Rattle.step_meaning.specs.Runs.{global_blocks, start_memory, start_state, start_world, exit_of, Logged, logged_by, direct_run, after_log, trace_of, run}
+use Rattle.step_meaning.specs.Runs.{global_blocks, start_memory, start_state, start_world, logged_by, direct_run, after_log, trace_of}
 use Rattle.step_meaning.specs.TypeRules.{cells, keeps_rules}
-use Rattle.step_meaning.specs.ExpressionTypes.{has_body, parameter_types, called}
+use Rattle.step_meaning.specs.ExpressionTypes.{has_body, parameter_types}
 use Rattle.step_meaning.specs.StatementRules.{BodyFits}
-use Rattle.step_meaning.specs.InitialValues.{has_part, is_address, is_initial_value, are_initial_values, all_initialised}
-use Rattle.step_meaning.specs.WellFormed.{IsWellFormed, IsWellFormedFunction, OfBody, int, is_main, is_int_function}
+use Rattle.step_meaning.specs.InitialValues.{has_part, is_initial_value, are_initial_values, all_initialised}
+use Rattle.step_meaning.specs.WellFormed.{IsWellFormed, IsWellFormedFunction, OfBody, int, is_main}
 use Rattle.step_meaning.specs.FaultsHalt.{FaultsHalt, WellFormedFaultsHalt}
-use Rattle.step_meaning.specs.Traced.{HasType, SlotTyped, is_program_kind, cells_declared}
+use Rattle.step_meaning.specs.Traced.{SlotTyped, is_program_kind, cells_declared}
 use Rattle.step_meaning.proofs.Flows.{run_logged}
 use Rattle.step_meaning.proofs.Ranges.{false_is_not_true, left_of_and, right_of_and}
 use Rattle.step_meaning.proofs.TypedMemory.{Each, WhereSome, get_fits, InCell, has_same_type, same_type_turned, BlockFits, Shape, MemoryFits}
@@ -171,8 +170,10 @@ well_formed_faults_halt q h input k = rw (run_logged q input k) (by (slice_get q
   where
     globals : List (List CType)
     globals = map cells_declared (start_memory q).globals
+
     no_parameters : (fn : Function) → (fn.params == 0) ≡ true → InCells (parameter_types fn) []
     no_parameters fn e = subst (λ n. InCells (map (λ d. d.ctype) (take n fn.locals)) []) (sym (eqb-true fn.params 0 e)) tt
+
     by : (o : Option Function) → slice_get q.functions q.start ≡ o → is_main o ≡ true → FaultsHalt (trace_of (direct_run q input k))
     by None e m = false_is_not_true m
     by (Some fn) e m = ran_well globals [] fn.result (ca.calls direct q k k q.start [] (start_world (start_state q input))) (left_of_and _ _ (right_of_and _ _ (left_of_and _ _ m)))
