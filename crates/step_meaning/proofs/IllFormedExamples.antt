@@ -149,11 +149,11 @@ too_few_cells w = refuted w.initial
 too_great_integer : IsWellFormed (starting ((value.Int (pos 2147483648) ∷ value.Null ∷ []) ∷ (value.Null ∷ []) ∷ [])) → ⊥
 too_great_integer w = refuted w.initial
 
--- an integer in a pointer, and a pointer in an integer
+-- an integer in a pointer
 integer_in_pointer : IsWellFormed (starting (list_start ∷ (value.Int (pos 0) ∷ []) ∷ [])) → ⊥
 integer_in_pointer w = refuted w.initial
 
--- int *where = &list; which points to the struct, and &list.next, which is no integer
+-- int *where = &list.next; which points to no integer
 struct_address : IsWellFormed (starting ((value.Int (pos 5) ∷ value.Null ∷ []) ∷ (value.Pointer list 1 ∷ []) ∷ [])) → ⊥
 struct_address w = refuted w.initial
 
@@ -270,7 +270,7 @@ Fits x = StatementFits (with_main (doing x)) (doing x) (setting_of (with_main (d
 statement_of : (x : Stmt) → IsWellFormed (with_main (doing x)) → Fits x
 statement_of x w = (main_of (doing x) w).body.1.1.0
 
--- an expression without a type: 1 + p
+-- an expression without a type: the value of a variable that isn't there
 no_type : IsWellFormed (with_main (doing (s.Eval (e.Load (local 1) int)))) → ⊥
 no_type w = refuted (statement_of (s.Eval (e.Load (local 1) int)) w)
 
@@ -360,7 +360,7 @@ calls_none w = refuted (statement_of (calling 4) w)
 
 -- ---- names
 
--- list, _0; while, 0x, a-b, and no letter
+-- _0 is a name; while, _Thread_local, 0x, a-b and the empty text are none
 underscore : is_name (codes "_0") ≡ true
 unfolding is_keyword keywords
 underscore = refl
