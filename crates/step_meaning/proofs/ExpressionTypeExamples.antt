@@ -1,7 +1,6 @@
 -- Expressions with their types, and expressions that have none, computed. The text of each stands above it.
-use Rattle.std.proofs.Common.{◌≡◌, ℕ, refl, List, [], ◌∷◌, Option, Some, None}
-use Rattle.std.specs.Prelude.{pos, negsuc, codes}
-use Rattle.step_meaning.specs.declared.value.IntKind.{IntKind}
+use Rattle.std.proofs.Common.{◌≡◌, ℕ, refl, [], ◌∷◌, Option, Some, None}
+use Rattle.std.specs.Prelude.{pos, negsuc}
 use Rattle.step_meaning.specs.declared.value.IntKind.TheVariants as kind
 use Rattle.step_meaning.specs.declared.value.CType.{CType}
 use Rattle.step_meaning.specs.declared.value.CType.TheVariants as type
@@ -19,7 +18,6 @@ use Rattle.step_meaning.specs.declared.expr.Expr.{Expr, end_of-Expr, more_of-Exp
 use Rattle.step_meaning.specs.declared.expr.Expr.TheVariants as e
 use Rattle.step_meaning.specs.declared.expr.Place_.{Place_, end_of-Place_, more_of-Place_}
 use Rattle.step_meaning.specs.declared.expr.Place_.TheVariants as p
-use Rattle.step_meaning.specs.declared.stmt.Stmt.TheVariants as s
 use Rattle.step_meaning.specs.declared.program.Layout.{Layout}
 use Rattle.step_meaning.specs.declared.program.Function.{Function}
 use Rattle.step_meaning.specs.declared.program.Core.{Core}

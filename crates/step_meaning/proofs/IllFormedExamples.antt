@@ -1,6 +1,6 @@
 -- Programs that differ from a well-formed one in one point, which makes them ill formed.
-use Rattle.std.proofs.Common.{◌≡◌, ℕ, Bool, true, false, refl, List, [], ◌∷◌, Option, Some, None}
-use Rattle.std.specs.Prelude.{pos, negsuc, codes, IsTrue}
+use Rattle.std.proofs.Common.{◌≡◌, ℕ, Bool, true, false, refl, List, [], ◌∷◌, Some, None}
+use Rattle.std.specs.Prelude.{pos, codes, IsTrue}
 use Rattle.step_meaning.specs.declared.value.IntKind.TheVariants as kind
 use Rattle.step_meaning.specs.declared.value.CType.{CType}
 use Rattle.step_meaning.specs.declared.value.CType.TheVariants as type
@@ -9,6 +9,8 @@ use Rattle.step_meaning.specs.declared.value.NameKind.TheVariants as names
 use Rattle.step_meaning.specs.declared.value.Name.{Name}
 use Rattle.step_meaning.specs.declared.value.Value.{Value}
 use Rattle.step_meaning.specs.declared.value.Value.TheVariants as value
+use Rattle.step_meaning.specs.declared.value.Action.TheVariants as act
+use Rattle.step_meaning.specs.declared.value.RunFault.TheVariants as fault
 use Rattle.step_meaning.specs.declared.expr.Variable.{Variable}
 use Rattle.step_meaning.specs.declared.expr.Expr.{Expr, end_of-Expr, more_of-Expr}
 use Rattle.step_meaning.specs.declared.expr.Expr.TheVariants as e
@@ -26,9 +28,11 @@ use Rattle.step_meaning.specs.ExpressionTypes.{pointer_to}
 use Rattle.step_meaning.specs.Identifiers.{keywords, is_keyword, is_name}
 use Rattle.step_meaning.specs.InitialValues.{all_initialised}
 use Rattle.step_meaning.specs.StatementRules.{StatementFits}
-use Rattle.step_meaning.specs.WellFormed.{IsWellFormed, IsWellFormedFunction, is_main}
-use Rattle.step_meaning.proofs.Examples.{int, array_of, lit, global, local, load, assign, return}
-use Rattle.step_meaning.proofs.WellFormedExamples.{named, char, node, node_layout, list, getchar, putchar, add, main, main_with, adding, call_add}
+use Rattle.step_meaning.specs.Runs.{run}
+use Rattle.step_meaning.specs.FaultsHalt.{FaultsHalt}
+use Rattle.step_meaning.specs.WellFormed.{IsWellFormed, IsWellFormedFunction}
+use Rattle.step_meaning.proofs.Examples.{int, array_of, lit, local, return}
+use Rattle.step_meaning.proofs.WellFormedExamples.{named, char, node, node_layout, list, getchar, putchar, add, main, main_with, adding}
 
 refuted : {A : Type 0} → IsTrue false → A
 refuted e = absurd (no e)
@@ -145,11 +149,11 @@ too_few_cells w = refuted w.initial
 too_great_integer : IsWellFormed (starting ((value.Int (pos 2147483648) ∷ value.Null ∷ []) ∷ (value.Null ∷ []) ∷ [])) → ⊥
 too_great_integer w = refuted w.initial
 
--- an integer in a pointer, and a pointer in an integer
+-- an integer in a pointer
 integer_in_pointer : IsWellFormed (starting (list_start ∷ (value.Int (pos 0) ∷ []) ∷ [])) → ⊥
 integer_in_pointer w = refuted w.initial
 
--- int *where = &list; which points to the struct, and &list.next, which is no integer
+-- int *where = &list.next; which points to no integer
 struct_address : IsWellFormed (starting ((value.Int (pos 5) ∷ value.Null ∷ []) ∷ (value.Pointer list 1 ∷ []) ∷ [])) → ⊥
 struct_address w = refuted w.initial
 
@@ -266,7 +270,7 @@ Fits x = StatementFits (with_main (doing x)) (doing x) (setting_of (with_main (d
 statement_of : (x : Stmt) → IsWellFormed (with_main (doing x)) → Fits x
 statement_of x w = (main_of (doing x) w).body.1.1.0
 
--- an expression without a type: 1 + p
+-- an expression without a type: the value of a variable that isn't there
 no_type : IsWellFormed (with_main (doing (s.Eval (e.Load (local 1) int)))) → ⊥
 no_type w = refuted (statement_of (s.Eval (e.Load (local 1) int)) w)
 
@@ -356,7 +360,7 @@ calls_none w = refuted (statement_of (calling 4) w)
 
 -- ---- names
 
--- list, _0; while, 0x, a-b, and no letter
+-- _0 is a name; while, _Thread_local, 0x, a-b and the empty text are none
 underscore : is_name (codes "_0") ≡ true
 unfolding is_keyword keywords
 underscore = refl
@@ -418,3 +422,19 @@ one_member_twice w = refuted w.member_names
 keyword_member : IsWellFormed (record adding { layouts = structs (named (codes "long") int ∷ named (codes "next") (pointer_to node) ∷ []) }) → ⊥
 unfolding is_keyword keywords
 keyword_member w = refuted w.member_names
+
+-- ---- what an ill-formed program may do
+
+-- the run of `break;` in a body ends by a fault that is no step
+break_run : FaultsHalt (run (with_main (doing s.Break)) [] 5) → ⊥
+break_run h = no h
+  where
+    no : {q : List Value} → act.Enter 3 q ≡ act.Halt fault.Invalid → ⊥
+    no e = cc
+
+-- and so does that of a call of a function without a body
+call_run : FaultsHalt (run (with_main (doing (calling 0))) [] 5) → ⊥
+call_run h = no h
+  where
+    no : act.Call 0 ≡ act.Halt fault.Invalid → ⊥
+    no e = cc

@@ -1,23 +1,19 @@
 -- What a part of a program keeps: the types of cells and registers, and that a fault that ends the run is the Halt step before the end.
-use Rattle.std.proofs.Common.{◌≡◌, ℕ, Bool, true, false, cond, List, [], ◌∷◌, map, Option, Some, None, refl}
+use Rattle.std.proofs.Common.{◌≡◌, ℕ, Bool, true, false, cond, List, [], ◌∷◌, map, refl}
 use Rattle.step_meaning.specs.declared.value.CType.{CType}
 use Rattle.step_meaning.specs.declared.value.Value.{Value}
 use Rattle.step_meaning.specs.declared.value.Action.{Action}
-use Rattle.step_meaning.specs.declared.value.Action.TheVariants as act
 use Rattle.step_meaning.specs.declared.value.RunFault.{RunFault}
 use Rattle.step_meaning.specs.declared.stmt.VerdictKind.{VerdictKind}
 use Rattle.step_meaning.specs.Memory.{Memory}
-use Rattle.step_meaning.specs.Steps.{Item, Made, Judged, End, Exit, Fault, More}
-use Rattle.step_meaning.specs.State.{State, Registers, Here}
+use Rattle.step_meaning.specs.Steps.{Item, End, Exit, Fault, More}
+use Rattle.step_meaning.specs.State.{Registers, Here}
 use Rattle.step_meaning.specs.Flow.{direct, Direct, DirectCall, World, Gives, Done, Over, Stuck, CallGives, Returned, Ended, onward, after_call}
+use Rattle.step_meaning.specs.FaultsHalt.{IsHalt}
 use Rattle.step_meaning.specs.Traced.{SlotTyped}
 use Rattle.step_meaning.proofs.TypedMemory.{Each, Shape, MemoryFits}
 
 -- a fault that ends the run is the newest item, a Halt step. No part of a program ends it with an exit
-abbrev pub IsHalt : RunFault → Item → Type 0
-IsHalt f (Made s) = s.action ≡ act.Halt f
-IsHalt f (Judged v) = ⊥
-
 abbrev pub EndsWell : End → List Item → Type 0
 EndsWell (Exit v) l = ⊥
 EndsWell More l = Unit {0}

@@ -29,3 +29,5 @@ pub mod FitExamples
 pub mod IntervalEnds
 pub mod ValuesInside
 pub mod FitsBounded
+mod TypedSizes
+pub mod TypedRuns

@@ -1,5 +1,5 @@
 -- Statements in normal form and others, sizes of small trees, and a small program that is printable.
-use Rattle.std.proofs.Common.{◌≡◌, ℕ, zero, suc, true, false, refl, [], ◌∷◌, Some, None}
+use Rattle.std.proofs.Common.{◌≡◌, ℕ, zero, suc, true, false, refl, [], ◌∷◌, Some}
 use Rattle.std.specs.Prelude.{codes}
 use Rattle.step_meaning.specs.declared.value.IntKind.TheVariants as kind
 use Rattle.step_meaning.specs.declared.value.NameKind.TheVariants as names

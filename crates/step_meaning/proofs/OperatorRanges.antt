@@ -1,19 +1,16 @@
 -- What an operator gives lies in the range of its kind, and a pointer difference in that of `long`.
-use Rattle.std.proofs.Common.{◌≡◌, ℕ, zero, suc, ◌≤◌, ◌<◌, ◌+◌, ◌-◌, ◌*◌, ◌/◌, ◌%◌, ◌^◌, Bool, true, false, cond, ◌&&◌, not, Ok, Err, Result, Option, Some, None, refl, sym, ap, subst, ◌∙◌, arith, mod-lt, div-le_self}
-use Rattle.std.specs.Prelude.{ℤ, pos, negsuc, neg_ℤ, ◌+ℤ◌, ◌-ℤ◌, ◌*ℤ◌, int_le, nat_lt, nat_le, int_div, int_rem, bit_and, bit_or, bit_xor, if◌then◌else◌}
-use Rattle.std.proofs.lemmas.Bool.{leb-true, le-leb}
+use Rattle.std.proofs.Common.{◌≡◌, ℕ, zero, suc, ◌≤◌, ◌<◌, ◌-◌, ◌*◌, ◌/◌, ◌^◌, Bool, true, false, cond, ◌&&◌, not, Ok, Err, refl, arith, div-le_self}
+use Rattle.std.specs.Prelude.{ℤ, pos, negsuc, neg_ℤ, ◌+ℤ◌, ◌-ℤ◌, ◌*ℤ◌, nat_lt, int_div, int_rem, bit_and, bit_or, bit_xor}
 use Rattle.step_meaning.specs.declared.value.IntKind.{IntKind}
 use Rattle.step_meaning.specs.declared.value.IntKind.TheVariants as kind
-use Rattle.step_meaning.specs.declared.value.RunFault.{RunFault}
 use Rattle.step_meaning.specs.declared.value.RunFault.TheVariants as fault
-use Rattle.step_meaning.specs.declared.value.Name.{Name}
 use Rattle.step_meaning.specs.declared.value.Value.{Value}
 use Rattle.step_meaning.specs.declared.value.Value.TheVariants as value
 use Rattle.step_meaning.specs.declared.expr.IntOp.{IntOp}
 use Rattle.step_meaning.specs.declared.expr.IntOp.TheVariants as op
 use Rattle.step_meaning.specs.declared.expr.UnaryOp.{UnaryOp}
 use Rattle.step_meaning.specs.declared.expr.UnaryOp.TheVariants as unary
-use Rattle.step_meaning.specs.Numbers.{width, is_signed, is_in_range, low_bits, converted, Checked, in_kind, is_zero, with_divisor, remainder, with_count, shifted_up, shifted_down, on_bits, binary_of, unary_of}
+use Rattle.step_meaning.specs.Numbers.{width, is_signed, is_in_range, low_bits, converted, Checked, in_kind, is_zero, with_divisor, remainder, with_count, shifted_up, shifted_down, binary_of, unary_of}
 use Rattle.step_meaning.specs.Names.{same_name, in_units, distance}
 use Rattle.step_meaning.proofs.Ranges.{bound, natural_in_range, natural_below, negative_in_range, negative_below, converted_in_range}
 

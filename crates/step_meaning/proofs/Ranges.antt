@@ -1,16 +1,10 @@
 -- Results of conversions and operators lie in the range of their kind.
-use Rattle.std.proofs.Common.{◌≡◌, ℕ, zero, suc, ◌≤◌, ◌<◌, ◌+◌, ◌-◌, ◌*◌, ◌/◌, ◌%◌, ◌^◌, Bool, true, false, cond, ◌&&◌, not, Ok, Err, Result, refl, sym, ap, subst, ◌∙◌, arith, mod-lt, div-le_self, le_trans, lt_of_le_of_lt, le_of_lt}
-use Rattle.std.specs.Prelude.{ℤ, pos, negsuc, int_le, nat_lt, nat_le, int_div, int_rem, ◌==◌}
+use Rattle.std.proofs.Common.{◌≡◌, ℕ, zero, suc, ◌≤◌, ◌<◌, ◌-◌, ◌*◌, ◌^◌, Bool, true, false, cond, ◌&&◌, refl, arith, mod-lt}
+use Rattle.std.specs.Prelude.{ℤ, pos, negsuc, nat_lt}
 use Rattle.std.proofs.lemmas.Bool.{leb-true, le-leb}
 use Rattle.step_meaning.specs.declared.value.IntKind.{IntKind}
 use Rattle.step_meaning.specs.declared.value.IntKind.TheVariants as kind
-use Rattle.step_meaning.specs.declared.value.RunFault.{RunFault}
-use Rattle.step_meaning.specs.declared.value.RunFault.TheVariants as fault
-use Rattle.step_meaning.specs.declared.expr.IntOp.{IntOp}
-use Rattle.step_meaning.specs.declared.expr.IntOp.TheVariants as op
-use Rattle.step_meaning.specs.declared.expr.UnaryOp.{UnaryOp}
-use Rattle.step_meaning.specs.declared.expr.UnaryOp.TheVariants as unary
-use Rattle.step_meaning.specs.Numbers.{width, is_signed, least, greatest, is_in_range, low_bits, from_low_bits, converted, Checked, in_kind, is_zero, with_divisor, remainder, with_count, shifted_up, shifted_down, on_bits, binary_of, unary_of}
+use Rattle.step_meaning.specs.Numbers.{is_signed, is_in_range, low_bits, from_low_bits, converted}
 
 -- ---- tests
 

@@ -1,30 +1,28 @@
 -- Accesses, addresses and operators keep types: what is loaded has the type of the access, what is stored has it, and a moved pointer is a pointer.
-use Rattle.std.proofs.Common.{◌≡◌, ℕ, zero, suc, ◌≤◌, ◌<◌, ◌%◌, ◌^◌, Bool, true, false, cond, List, [], ◌∷◌, map, Option, Some, None, Ok, Err, refl, sym, ap, subst, ◌∙◌, arith, mod-lt}
-use Rattle.std.specs.Prelude.{ℤ, pos, negsuc, ◌+ℤ◌, nat_le, slice_get, IsTrue, not}
+use Rattle.std.proofs.Common.{◌≡◌, ℕ, zero, suc, ◌≤◌, ◌<◌, ◌%◌, ◌^◌, Bool, true, false, cond, List, [], ◌∷◌, map, Option, Some, None, Ok, Err, refl, ap, ◌∙◌, arith, mod-lt}
+use Rattle.std.specs.Prelude.{ℤ, pos, negsuc, ◌+ℤ◌, nat_le, slice_get, IsTrue}
 use Rattle.std.proofs.lemmas.Bool.{leb-true}
 use Rattle.step_meaning.specs.declared.value.IntKind.{IntKind}
 use Rattle.step_meaning.specs.declared.value.IntKind.TheVariants as kind
-use Rattle.step_meaning.specs.declared.value.CType.{CType, end_of-CType, more_of-CType}
+use Rattle.step_meaning.specs.declared.value.CType.{CType}
 use Rattle.step_meaning.specs.declared.value.CType.TheVariants as type
-use Rattle.step_meaning.specs.declared.value.Name.{Name}
 use Rattle.step_meaning.specs.declared.value.Value.{Value}
 use Rattle.step_meaning.specs.declared.value.Value.TheVariants as value
 use Rattle.step_meaning.specs.declared.value.Cell.{Cell}
 use Rattle.step_meaning.specs.declared.value.Cell.TheVariants.{Nothing, Holds}
 use Rattle.step_meaning.specs.declared.value.RunFault.TheVariants as fault
 use Rattle.step_meaning.specs.declared.value.Action.TheVariants as act
-use Rattle.step_meaning.specs.declared.expr.Side.{Side}
 use Rattle.step_meaning.specs.Numbers.{Checked, low_bits}
 use Rattle.step_meaning.specs.Names.{within, moved, of_truth, integer}
-use Rattle.step_meaning.specs.Memory.{room_at, reached, stored, typed}
+use Rattle.step_meaning.specs.Memory.{room_at, reached}
 use Rattle.step_meaning.specs.State.{Here, Registers, Lvalue, InRegister, At, register_at, set_register}
-use Rattle.step_meaning.specs.Flow.{direct, Direct, World, Gives}
+use Rattle.step_meaning.specs.Flow.{direct, World}
 use Rattle.step_meaning.specs.Accesses as acc
-use Rattle.step_meaning.specs.Traced.{HasType, CellHasType, SlotTyped, PointsIntoProgram, is_program_kind}
+use Rattle.step_meaning.specs.Traced.{CellHasType, SlotTyped, is_program_kind}
 use Rattle.step_meaning.proofs.Ranges.{natural_in_range, low_bits_below}
 use Rattle.step_meaning.proofs.OperatorRanges.{OnOk, InRange}
 use Rattle.step_meaning.proofs.TypedMemory.{Each, WhereSome, get_fits, InCell, Takes, typed_fits, takes_typed, Shape, MemoryFits, reached_fits, room_fits, stored_fits}
-use Rattle.step_meaning.proofs.Kept.{EndsWell, RegistersFit, GivesFit, Keeps, Always, keeps_pure, keeps_bind, keeps_cond, keeps_halt, keeps_misuse, keeps_get, keeps_registers, keeps_emit, keeps_put_input}
+use Rattle.step_meaning.proofs.Kept.{RegistersFit, GivesFit, Keeps, Always, keeps_pure, keeps_bind, keeps_halt, keeps_misuse, keeps_get, keeps_registers, keeps_emit, keeps_put_input}
 
 -- ---- pointers
 
@@ -70,6 +68,7 @@ set_registers_fit types r i t v c e k h = record { declared = declared_same r i 
     declared_same [] i = refl
     declared_same (s ∷ r) zero = refl
     declared_same (s ∷ r) (suc i) = ap (λ ts. s.declared ∷ ts) (declared_same r i)
+
     slots_fit : (r : Registers) (i : ℕ) → WhereSome (Takes (Holds v)) (slice_get r i) → Each SlotTyped r → Each SlotTyped (set_register r i v)
     slots_fit [] i f h = tt
     slots_fit (s ∷ r) zero f h = (f, h.1)

@@ -1,6 +1,6 @@
 -- Calls keep types: a call of a function with a body, with arguments of its types, gives a value of its type and leaves the frames as they were.
-use Rattle.std.proofs.Common.{◌≡◌, ℕ, zero, suc, ◌<◌, ◌^◌, Bool, true, false, cond, ◌&&◌, not, List, [], ◌∷◌, length, map, take, drop, Option, Some, None, refl, sym, ap, subst, ◌∙◌, arith}
-use Rattle.std.specs.Prelude.{◌==◌, pos, slice_get, option_map, option_and_then, is_some}
+use Rattle.std.proofs.Common.{◌≡◌, ℕ, zero, suc, ◌<◌, ◌^◌, Bool, true, false, List, [], ◌∷◌, length, map, take, drop, Option, Some, None, refl, ap, ◌∙◌, arith}
+use Rattle.std.specs.Prelude.{◌==◌, pos, slice_get, option_map}
 use Rattle.std.specs.List.{list_all}
 use Rattle.step_meaning.specs.declared.value.CType.{CType}
 use Rattle.step_meaning.specs.declared.value.CType.TheVariants as type
@@ -15,7 +15,7 @@ use Rattle.step_meaning.specs.declared.program.Layout.{Layout}
 use Rattle.step_meaning.specs.declared.program.Function.{Function}
 use Rattle.step_meaning.specs.declared.program.Core.{Core}
 use Rattle.step_meaning.specs.Types.{object_cells}
-use Rattle.step_meaning.specs.Memory.{Memory, Frame, Block, Slot, empty_block, filled}
+use Rattle.step_meaning.specs.Memory.{Memory, Frame, Slot, empty_block, filled}
 use Rattle.step_meaning.specs.State.{Here, Registers, unset_registers}
 use Rattle.step_meaning.specs.Flow.{direct, Direct, DirectCall, World, Gives, Done, Over, Stuck, onward, as_call}
 use Rattle.step_meaning.specs.Statements as sm
@@ -24,16 +24,16 @@ use Rattle.step_meaning.specs.Calls as ca
 use Rattle.step_meaning.specs.Calls.{annotations, after_annotations, with_arguments, first_frame, value_or_zero}
 use Rattle.step_meaning.specs.Settings.{setting_of, leading_setting}
 use Rattle.step_meaning.specs.TypeRules.{is_scalar, is_scalar_type, keeps_rules}
-use Rattle.step_meaning.specs.ExpressionTypes.{has_body, parameter_types, called}
+use Rattle.step_meaning.specs.ExpressionTypes.{parameter_types, called}
 use Rattle.step_meaning.specs.StatementRules.{BodyFits}
-use Rattle.step_meaning.specs.WellFormed.{IsWellFormed, IsWellFormedFunction, OfBody}
+use Rattle.step_meaning.specs.WellFormed.{IsWellFormedFunction}
 use Rattle.step_meaning.specs.Traced.{SlotTyped}
 use Rattle.step_meaning.proofs.Ranges.{false_is_not_true, left_of_and, right_of_and}
-use Rattle.step_meaning.proofs.TypedMemory.{Each, WhereSome, get_fits, InCell, BlockFits, FrameFits, Shape, shape_of, MemoryFits}
-use Rattle.step_meaning.proofs.TypedOperators.{OfType, of_cell}
-use Rattle.step_meaning.proofs.TypedExpressions.{InCells, ScalarRegisters, CallsKeep}
+use Rattle.step_meaning.proofs.TypedMemory.{Each, WhereSome, InCell, BlockFits, FrameFits, Shape, shape_of, MemoryFits}
+use Rattle.step_meaning.proofs.TypedOperators.{OfType}
+use Rattle.step_meaning.proofs.TypedExpressions.{InCells}
 use Rattle.step_meaning.proofs.TypedStatements.{ReturnFits, CompletionFits, keeps_exec_all}
-use Rattle.step_meaning.proofs.Kept.{EndsWell, RegistersFit, CallGivesFit, CallKeeps, GivesFit, Keeps, Always, keeps_pure, keeps_halt, keeps_emit}
+use Rattle.step_meaning.proofs.Kept.{RegistersFit, CallGivesFit, CallKeeps, GivesFit, Keeps, keeps_pure, keeps_halt, keeps_emit}
 
 -- ---- a part of a run that closes the innermost frame
 
@@ -54,6 +54,7 @@ tail_fits globals s frames memory h = record { globals_declared = h.globals_decl
     dropped : (fs : List Frame) → map shape_of (drop 1 fs) ≡ drop 1 (map shape_of fs)
     dropped [] = refl
     dropped (f ∷ fs) = refl
+
     rest : (fs : List Frame) → Each FrameFits fs → Each FrameFits (drop 1 fs)
     rest [] h = tt
     rest (f ∷ fs) h = h.1
@@ -73,6 +74,7 @@ empty_fits layouts sizes d h = (slots (object_cells layouts d.ctype), rw (length
     slots : (ts : List CType) → Each SlotTyped (map (λ t. record { declared = t; cell = Nothing }) ts)
     slots [] = tt
     slots (t ∷ ts) = (tt, slots ts)
+
     lengths : (ts : List CType) → length (map {B = Slot} (λ t. record { declared = t; cell = Nothing }) ts) ≡ length ts
     lengths [] = refl
     lengths (t ∷ ts) = ap suc (lengths ts)
@@ -106,6 +108,7 @@ unset_fit ds = record { declared = types ds; fit = slots ds }
     types : (ds : List Declared) → map (λ s. s.declared) (unset_registers ds) ≡ map (λ d. d.ctype) ds
     types [] = refl
     types (d ∷ ds) = ap (λ ts. d.ctype ∷ ts) (types ds)
+
     slots : (ds : List Declared) → Each SlotTyped (unset_registers ds)
     slots [] = tt
     slots (d ∷ ds) = (tt, slots ds)
@@ -162,15 +165,17 @@ module _ (q : Core) (globals : List (List CType)) (bound : ℕ) (sizes : SizesFi
   abbrev pub AllCallsKeep : (ℕ → List Value → DirectCall) → Type 0
   AllCallsKeep call = (frames : List Shape) (g : ℕ) → WhereSome (λ fn. (vs : List Value) → InCells (parameter_types fn) vs → CallKeeps globals frames (OfType fn.result) (call g vs)) (called q g)
 
-  keeps_activation : (call : ℕ → List Value → DirectCall) → AllCallsKeep call → (frames : List Shape) (g : ℕ) (fn : Function) (body : List Stmt) (vs : List Value) → IsWellFormedFunction q fn → BodyFits q fn body → ((g == q.start) ≡ true → ReturnFits fn.result (Some (value.Int (pos 0)))) → InCells (parameter_types fn) vs → CallKeeps globals frames (OfType fn.result) (direct.alone (unset_registers fn.registers) (ca.activation direct q bound call g fn body vs))
+  pub keeps_activation : (call : ℕ → List Value → DirectCall) → AllCallsKeep call → (frames : List Shape) (g : ℕ) (fn : Function) (body : List Stmt) (vs : List Value) → IsWellFormedFunction q fn → BodyFits q fn body → ((g == q.start) ≡ true → ReturnFits fn.result (Some (value.Int (pos 0)))) → InCells (parameter_types fn) vs → CallKeeps globals frames (OfType fn.result) (direct.alone (unset_registers fn.registers) (ca.activation direct q bound call g fn body vs))
   keeps_activation call calls frames g fn body vs h fits main arguments = record { by = opened }
     where
       registers : List CType
       registers = map (λ d. d.ctype) fn.registers
+
       on_call : (o : Gives Value) → GivesFit globals frames registers (OfType fn.result) o → CallGivesFit globals frames (OfType fn.result) (as_call o)
       on_call (Done v w r) k = (k.0, k.1)
       on_call (Over e l) k = k
       on_call (Stuck e l) k = k
+
       rest : Here → Direct Value
       rest here =
           direct.bind (sm.exec_all direct q.layouts call here bound (annotations body)) (λ c.
@@ -180,6 +185,7 @@ module _ (q : Core) (globals : List (List CType)) (bound : ℕ) (sizes : SizesFi
           direct.bind (direct.emit here (act.Return g v)) (λ u.
           direct.bind (ca.close_frame direct) (λ u.
           direct.pure (value_or_zero v)))))))
+
       closed : (here : Here) (s : Shape) → Closes globals (s ∷ frames) frames registers (OfType fn.result) (rest here)
       closed here s =
           closes_bind (keeps_exec_all q fn globals (s ∷ frames) here call bound (scalar_registers q.layouts fn.registers h.registers) (calls (s ∷ frames)) (leading_setting q fn) (annotations body) fits.0) (λ c k.
@@ -188,5 +194,6 @@ module _ (q : Core) (globals : List (List CType)) (bound : ℕ) (sizes : SizesFi
           closes_bind (keeps_given_back here (g == q.start) fn.result c main k) (λ v k.
           closes_bind (keeps_emit here (act.Return g v)) (λ u l.
           closes_frame globals s frames registers (OfType fn.result) (value_or_zero v) (value_fits fn.result v k))))))
+
       opened : (w : World) → MemoryFits globals frames w.memory → CallGivesFit globals frames (OfType fn.result) (direct.alone (unset_registers fn.registers) (ca.activation direct q bound call g fn body vs) w)
       opened w m = on_call (ca.activation direct q bound call g fn body vs w (unset_registers fn.registers)) ((closed (record { function = g; activation = w.made }) (shape_of (first_frame q.layouts fn w.made vs))).by _ (unset_registers fn.registers) (record { globals_declared = m.globals_declared; frames_declared = ap (λ ss. shape_of (first_frame q.layouts fn w.made vs) ∷ ss) m.frames_declared; globals_fit = m.globals_fit; locals_fit = (arguments_fit q.layouts sizes fn.locals fn.params vs h.locals h.parameters arguments, m.locals_fit) }) (unset_fit fn.registers))

@@ -1,9 +1,8 @@
 -- Type preservation: an expression of a type gives a value of that type, an lvalue of a type designates a register or an object at an address, and the cells and registers keep values of their types.
-use Rattle.std.proofs.Common.{◌≡◌, ℕ, zero, suc, ◌<◌, ◌^◌, Bool, true, false, cond, ◌&&◌, ◌||◌, not, List, [], ◌∷◌, map, Option, Some, None, refl, sym, ap, subst, ◌∙◌, arith}
-use Rattle.std.specs.Prelude.{ℤ, pos, int_le, slice_get, option_map, is_some}
-use Rattle.step_meaning.specs.declared.value.IntKind.{IntKind}
+use Rattle.std.proofs.Common.{◌≡◌, ℕ, Bool, true, false, cond, ◌&&◌, not, List, [], ◌∷◌, map, Option, Some, None, refl, sym, subst, arith}
+use Rattle.std.specs.Prelude.{pos, int_le, slice_get, option_map, is_some}
 use Rattle.step_meaning.specs.declared.value.IntKind.TheVariants as kind
-use Rattle.step_meaning.specs.declared.value.CType.{CType, end_of-CType, more_of-CType}
+use Rattle.step_meaning.specs.declared.value.CType.{CType}
 use Rattle.step_meaning.specs.declared.value.CType.TheVariants as type
 use Rattle.step_meaning.specs.declared.value.NameKind.{NameKind}
 use Rattle.step_meaning.specs.declared.value.NameKind.TheVariants as names
@@ -11,19 +10,17 @@ use Rattle.step_meaning.specs.declared.value.Value.{Value}
 use Rattle.step_meaning.specs.declared.value.Value.TheVariants as value
 use Rattle.step_meaning.specs.declared.value.Action.TheVariants as act
 use Rattle.step_meaning.specs.declared.expr.CompareOp.{CompareOp}
-use Rattle.step_meaning.specs.declared.expr.Variable.{Variable}
 use Rattle.step_meaning.specs.declared.expr.Expr.{Expr, Row_of-Expr, end_of-Expr, more_of-Expr}
 use Rattle.step_meaning.specs.declared.expr.Expr.TheVariants.{Literal, Null, Load, Address, Convert', Unary', Binary', Compare', Move', Difference', Not', Both', Either', Choose', Assign', Update', Invoke', GetChar, PutChar', Discard', Own, Deref', Member', Index'}
 use Rattle.step_meaning.specs.declared.expr.Place_.{Place_, end_of-Place_, more_of-Place_}
-use Rattle.step_meaning.specs.declared.program.Declared.{Declared}
 use Rattle.step_meaning.specs.declared.program.Function.{Function}
 use Rattle.step_meaning.specs.declared.program.Core.{Core}
 use Rattle.step_meaning.specs.Numbers.{is_in_range}
 use Rattle.step_meaning.specs.Names.{truth}
-use Rattle.step_meaning.specs.State.{Here, Lvalue, InRegister, At, designated}
+use Rattle.step_meaning.specs.State.{Here, Lvalue, InRegister, designated}
 use Rattle.step_meaning.specs.Flow.{direct, Direct, DirectCall}
 use Rattle.step_meaning.specs.Expressions as ex
-use Rattle.step_meaning.specs.Settings.{Setting, variables, variable_type, code_setting}
+use Rattle.step_meaning.specs.Settings.{Setting, variable_type, code_setting}
 use Rattle.step_meaning.specs.Conversions.{is_promoted}
 use Rattle.step_meaning.specs.TypeRules.{is_scalar}
 use Rattle.step_meaning.specs.ExpressionTypes.{where_true, has_this_type, has_kind, has_scalar_type, is_null, are_of_one_kind, are_of_one_pointer, is_pointer_beside_null, is_equality, are_comparable, choice_type, is_taken_by, may_answer, is_register, parameter_types, called, call_type, pointer_to}
@@ -31,9 +28,9 @@ use Rattle.step_meaning.specs.ExpressionTypes as typing
 use Rattle.step_meaning.proofs.Ranges.{false_is_not_true, left_of_and, right_of_and}
 use Rattle.step_meaning.proofs.TypedMemory.{WhereSome, InCell, Shape}
 use Rattle.step_meaning.proofs.TypedAccesses.{keeps_get_char, keeps_put_char}
-use Rattle.step_meaning.proofs.TypedOperators.{OfType, of_cell, where_true_fits, either_true, Typed, this_keeps, kind_keeps, some_keeps, scalar_is_some, keeps_convert, keeps_unary, keeps_binary, keeps_compare, keeps_not, keeps_both, keeps_either, keeps_move, keeps_difference}
+use Rattle.step_meaning.proofs.TypedOperators.{OfType, where_true_fits, either_true, Typed, kind_keeps, some_keeps, scalar_is_some, keeps_convert, keeps_unary, keeps_binary, keeps_compare, keeps_not, keeps_both, keeps_either, keeps_move, keeps_difference}
 use Rattle.step_meaning.proofs.TypedPlaces.{Designates, all_some, NullKeeps, PlaceTyped, keeps_choice, taken_keeps, keeps_read, keeps_assign, keeps_update, keeps_address, keeps_deref, keeps_member, keeps_element}
-use Rattle.step_meaning.proofs.Kept.{CallKeeps, Keeps, Always, keeps_pure, keeps_bind, keeps_weaker, keeps_emit, keeps_through}
+use Rattle.step_meaning.proofs.Kept.{CallKeeps, Keeps, keeps_pure, keeps_bind, keeps_emit, keeps_through}
 
 -- arguments of these types
 abbrev pub InCells : List CType → List Value → Type 0
@@ -95,8 +92,8 @@ module _ (q : Core) (f : Function) (globals : List (List CType)) (frames : List 
       either_true _ _ h (some_of_one_kind (typing.type_of q own e) (typing.type_of q own g)) (λ h.
       either_true _ _ h (some_of_one_pointer (typing.type_of q own e) (typing.type_of q own g)) (λ h.
       either_true _ _ (right_of_and (is_equality c) _ h)
-          (λ h. (null_is_some e (left_of_and _ _ h), some_beside_null e (typing.type_of q own g) h))
-          (λ h. (some_beside_null g (typing.type_of q own e) h, null_is_some g (left_of_and _ _ h)))))
+      (λ h. (null_is_some e (left_of_and _ _ h), some_beside_null e (typing.type_of q own g) h))
+      (λ h. (some_beside_null g (typing.type_of q own e) h, null_is_some g (left_of_and _ _ h)))))
 
   keeps_own : ScalarRegisters → (k : NameKind) (i : ℕ) → PlaceTyped globals frames register_types here (is_register (Own (record { kind = k; index = i }))) (variable_type own (record { kind = k; index = i })) (direct.pure (designated here.activation (record { kind = k; index = i }) 0))
   keeps_own scalars names.Global i = all_some _ (variable_type own (record { kind = names.Global; index = i })) (λ t. keeps_pure _ (omega arith, refl))

@@ -1,6 +1,6 @@
 -- Memories whose cells hold values of their types stay so, and an access gives a value of its type.
-use Rattle.std.proofs.Common.{◌≡◌, ℕ, zero, suc, ◌≤◌, ◌<◌, ◌^◌, Bool, true, false, cond, ◌&&◌, List, [], ◌∷◌, length, map, Option, Some, None, refl, sym, ap, subst, ◌∙◌, arith}
-use Rattle.std.specs.Prelude.{ℤ, pos, negsuc, slice_get, option_and_then, option_map, IsTrue, ◌==◌}
+use Rattle.std.proofs.Common.{◌≡◌, ℕ, zero, suc, ◌<◌, ◌^◌, Bool, true, false, cond, List, [], ◌∷◌, length, map, Option, Some, None, refl, ap, ◌∙◌}
+use Rattle.std.specs.Prelude.{slice_get, option_and_then, option_map, IsTrue, ◌==◌}
 use Rattle.std.specs.List.{AllByRecursion}
 use Rattle.std.proofs.lemmas.Bool.{eqb-true}
 use Rattle.std.proofs.Math.Dec.{eqb_refl, T}
@@ -112,6 +112,7 @@ typed_fits (Some s) t h = by (same_type s.declared t) refl
     cell : (c : Cell) → same_type s.declared t ≡ true → CellHasType s.declared c → CellHasType t c
     cell Nothing e h = tt
     cell (Holds v) e h = (has_same_type s.declared t v e h.0, h.1)
+
     by : (b : Bool) → same_type s.declared t ≡ b → WhereSome (CellHasType t) (cond b (Some s.cell) None)
     by true e = cell s.cell e h
     by false e = tt
@@ -243,6 +244,7 @@ module _ {globals : List (List CType)} {frames : List Shape} {memory : Memory} (
     where
       none_is_not_some : None ≡ Some c → ⊥
       none_is_not_some e = cc
+
       by : (k : NameKind) (a : ℕ) → typed (slot_at (block_in memory k a n.index) o) t ≡ Some c → WhereSome (Takes (Holds v)) (slot_at (block_in memory k a n.index) o) → MemoryFits globals frames (changed memory k a (at_block (set_cell (Holds v) o) n.index))
       by names.Global zero e f = record { globals_declared = blocks_declared (Holds v) o n.index memory.globals ∙ h.globals_declared; frames_declared = h.frames_declared; globals_fit = blocks_fit (Holds v) o n.index memory.globals f h.globals_fit; locals_fit = h.locals_fit }
       by names.Global (suc a) e f = absurd (none_is_not_some e)

@@ -1,6 +1,6 @@
 -- The typing of each form of expression, on what its parts are known to keep.
-use Rattle.std.proofs.Common.{◌≡◌, ℕ, zero, suc, ◌<◌, ◌^◌, Bool, true, false, cond, ◌&&◌, ◌||◌, not, List, [], ◌∷◌, map, Option, Some, None, Ok, Err, refl, sym, ap, subst, ◌∙◌, arith}
-use Rattle.std.specs.Prelude.{◌==◌, ℤ, pos, ◌*ℤ◌, neg_ℤ, IsTrue, is_some}
+use Rattle.std.proofs.Common.{◌≡◌, ℕ, Bool, true, false, cond, ◌&&◌, ◌||◌, not, List, Option, Some, None, refl}
+use Rattle.std.specs.Prelude.{◌==◌, ℤ, pos, ◌*ℤ◌, neg_ℤ, is_some}
 use Rattle.step_meaning.specs.declared.value.IntKind.{IntKind}
 use Rattle.step_meaning.specs.declared.value.IntKind.TheVariants as kind
 use Rattle.step_meaning.specs.declared.value.CType.{CType, end_of-CType, more_of-CType}
@@ -12,28 +12,21 @@ use Rattle.step_meaning.specs.declared.expr.UnaryOp.{UnaryOp}
 use Rattle.step_meaning.specs.declared.expr.CompareOp.{CompareOp}
 use Rattle.step_meaning.specs.declared.expr.Side.{Side}
 use Rattle.step_meaning.specs.declared.expr.Side.TheVariants.{PointerFirst, PointerLast, Minus}
-use Rattle.step_meaning.specs.declared.expr.UpdateOp.{UpdateOp}
-use Rattle.step_meaning.specs.declared.expr.UpdateOp.TheVariants.{Integer, Forward, Backward}
-use Rattle.step_meaning.specs.declared.expr.Answer.{Answer}
-use Rattle.step_meaning.specs.declared.expr.Answer.TheVariants.{Before, After}
-use Rattle.step_meaning.specs.declared.expr.Expr.{Expr}
-use Rattle.step_meaning.specs.declared.expr.Expr.TheVariants as e
 use Rattle.step_meaning.specs.declared.program.Layout.{Layout}
-use Rattle.step_meaning.specs.Numbers.{is_in_range, converted, binary_of, unary_of}
+use Rattle.step_meaning.specs.Numbers.{converted, binary_of, unary_of}
 use Rattle.step_meaning.specs.Names.{integer, truth, of_truth, compared, distance}
 use Rattle.step_meaning.specs.Types.{same_type}
-use Rattle.step_meaning.specs.State.{Here, Lvalue, InRegister, At}
+use Rattle.step_meaning.specs.State.{Here}
 use Rattle.step_meaning.specs.Flow.{direct, Direct}
 use Rattle.step_meaning.specs.Accesses as acc
 use Rattle.step_meaning.specs.Conversions.{is_promoted, same_int_kind}
 use Rattle.step_meaning.specs.TypeRules.{cells, is_scalar}
-use Rattle.step_meaning.specs.ExpressionTypes.{where_true, is_void, has_this_type, has_kind, has_integer_type, has_promoted_kind, has_pointer_type, has_scalar_type, is_null, converted_type, is_shift, binary_type, are_of_one_kind, are_of_one_pointer, is_pointer_beside_null, is_equality, are_comparable, moved_type, move_type, difference_type, logical_type, are_void, choice_type, is_taken_by, is_operation}
-use Rattle.step_meaning.specs.Traced.{HasType, PointsIntoProgram}
-use Rattle.step_meaning.proofs.Ranges.{false_is_not_true, left_of_and, right_of_and, and_true, converted_in_range}
-use Rattle.step_meaning.proofs.OperatorRanges.{OnOk, InRange, binary_fits, unary_fits, distance_fits, HasShortOffset}
+use Rattle.step_meaning.specs.ExpressionTypes.{where_true, is_void, has_this_type, has_kind, has_integer_type, has_promoted_kind, has_pointer_type, has_scalar_type, converted_type, is_shift, binary_type, moved_type, move_type, difference_type}
+use Rattle.step_meaning.proofs.Ranges.{false_is_not_true, left_of_and, right_of_and, converted_in_range}
+use Rattle.step_meaning.proofs.OperatorRanges.{InRange, binary_fits, unary_fits, distance_fits, HasShortOffset}
 use Rattle.step_meaning.proofs.TypedMemory.{WhereSome, InCell, has_same_type, same_type_turned, Shape}
-use Rattle.step_meaning.proofs.TypedAccesses.{IsAddress, address_of_type, type_of_address, keeps_checked, keeps_move_by, keeps_int, keeps_truth, keeps_checked_truth}
-use Rattle.step_meaning.proofs.Kept.{Keeps, Always, keeps_pure, keeps_bind, keeps_weaker, keeps_cond, keeps_halt}
+use Rattle.step_meaning.proofs.TypedAccesses.{IsAddress, address_of_type, type_of_address, keeps_move_by, keeps_int, keeps_truth, keeps_checked_truth}
+use Rattle.step_meaning.proofs.Kept.{Keeps, Always, keeps_pure, keeps_bind, keeps_weaker, keeps_cond}
 
 -- ---- values of a type
 

@@ -1,18 +1,15 @@
 -- The typing of choices, assignments, addresses and lvalues, on what their parts are known to keep.
-use Rattle.std.proofs.Common.{◌≡◌, ℕ, zero, suc, ◌<◌, ◌^◌, Bool, true, false, cond, ◌&&◌, ◌||◌, not, List, [], ◌∷◌, map, Option, Some, None, Ok, Err, refl, sym, ap, subst, ◌∙◌, arith}
-use Rattle.std.specs.Prelude.{◌==◌, ℤ, pos, ◌*ℤ◌, neg_ℤ, IsTrue, is_some}
-use Rattle.step_meaning.specs.declared.value.IntKind.{IntKind}
+use Rattle.std.proofs.Common.{◌≡◌, ℕ, Bool, true, false, cond, ◌&&◌, ◌||◌, not, List, Option, Some, None, Ok, Err, refl, sym, ◌∙◌}
+use Rattle.std.specs.Prelude.{◌==◌, ℤ, pos, ◌*ℤ◌, neg_ℤ, is_some}
 use Rattle.step_meaning.specs.declared.value.CType.{CType, end_of-CType, more_of-CType}
 use Rattle.step_meaning.specs.declared.value.CType.TheVariants as type
 use Rattle.step_meaning.specs.declared.value.Value.{Value}
 use Rattle.step_meaning.specs.declared.value.Value.TheVariants as value
-use Rattle.step_meaning.specs.declared.expr.IntOp.{IntOp}
 use Rattle.step_meaning.specs.declared.expr.UpdateOp.{UpdateOp}
 use Rattle.step_meaning.specs.declared.expr.UpdateOp.TheVariants.{Integer, Forward, Backward}
 use Rattle.step_meaning.specs.declared.expr.Answer.{Answer}
 use Rattle.step_meaning.specs.declared.expr.Answer.TheVariants.{Before, After}
 use Rattle.step_meaning.specs.declared.expr.Expr.{Expr}
-use Rattle.step_meaning.specs.declared.expr.Expr.TheVariants.{Null}
 use Rattle.step_meaning.specs.declared.program.Layout.{Layout}
 use Rattle.step_meaning.specs.Numbers.{Checked, converted, binary_of}
 use Rattle.step_meaning.specs.Names.{integer, truth}
@@ -22,13 +19,13 @@ use Rattle.step_meaning.specs.Accesses as acc
 use Rattle.step_meaning.specs.Accesses.{answer, converted_to}
 use Rattle.step_meaning.specs.Conversions.{is_promoted, same_int_kind, promoted, common}
 use Rattle.step_meaning.specs.TypeRules.{cells, is_scalar}
-use Rattle.step_meaning.specs.ExpressionTypes.{where_true, is_void, has_this_type, has_kind, has_integer_type, has_promoted_kind, has_pointer_type, has_scalar_type, is_null, is_shift, are_of_one_kind, are_of_one_pointer, is_pointer_beside_null, moved_type, are_void, choice_type, is_taken_by, is_operation, pointed_to, member_type, element_type, is_addressed_at, pointer_to}
+use Rattle.step_meaning.specs.ExpressionTypes.{where_true, is_void, has_this_type, has_kind, has_integer_type, has_pointer_type, is_null, is_shift, are_of_one_kind, are_of_one_pointer, is_pointer_beside_null, are_void, choice_type, is_taken_by, is_operation, pointed_to, member_type, element_type, is_addressed_at, pointer_to}
 use Rattle.step_meaning.specs.Traced.{HasType}
 use Rattle.step_meaning.proofs.Ranges.{false_is_not_true, left_of_and, right_of_and, converted_in_range}
 use Rattle.step_meaning.proofs.OperatorRanges.{OnOk, InRange}
 use Rattle.step_meaning.proofs.TypedMemory.{WhereSome, InCell, Shape}
 use Rattle.step_meaning.proofs.TypedAccesses.{IsAddress, address_of_type, type_of_address, keeps_checked, keeps_move_by, keeps_load, keeps_store}
-use Rattle.step_meaning.proofs.TypedOperators.{OfType, of_cell, where_true_fits, either_true, not_true, Typed, this_keeps, kind_keeps, some_keeps, this_is_some, integer_is_some, promoted_is_some, kind_is_some}
+use Rattle.step_meaning.proofs.TypedOperators.{OfType, of_cell, where_true_fits, either_true, not_true, Typed, this_keeps, kind_keeps, some_keeps, this_is_some, integer_is_some}
 use Rattle.step_meaning.proofs.Kept.{Keeps, Always, keeps_pure, keeps_bind, keeps_weaker, keeps_cond}
 
 -- what an lvalue of a type designates: where it is a register, a scalar; else an object at an address
@@ -89,9 +86,11 @@ module _ (globals : List (List CType)) (frames : List Shape) (registers : List C
     where
       pair : (t : CType) → K (OfType t) x → K (OfType t) y → K (OfType t) (direct.bind d (λ v. cond (truth v) x y))
       pair t k l = keeps_bind h (λ v g. keeps_cond (truth v) k l)
+
       both : (o : Option CType) → Typed globals frames registers o x → Typed globals frames registers o y → Typed globals frames registers o (direct.bind d (λ v. cond (truth v) x y))
       both None k l = tt
       both (Some t) k l = pair t k l
+
       by : (c : Bool) → (are_of_one_kind a b || (are_of_one_pointer a b || (are_void a b || is_pointer_beside_null f a))) ≡ c → (g : Bool) → is_pointer_beside_null e b ≡ g → Typed globals frames registers (cond c a (cond g b None)) (direct.bind d (λ v. cond (truth v) x y))
       by true p g r = both a i (second_keeps a b f y p j m)
       by false p true r = both b (first_keeps b e x r n) j

@@ -1,5 +1,5 @@
 -- Statements keep types: a statement is left by `break` or `continue` in a loop alone, and by `return` with a value of the function's type.
-use Rattle.std.proofs.Common.{◌≡◌, ℕ, zero, suc, Bool, true, false, cond, ◌&&◌, List, [], ◌∷◌, map, Option, Some, None, refl, sym, ap, subst, ◌∙◌}
+use Rattle.std.proofs.Common.{◌≡◌, ℕ, zero, suc, Bool, true, false, List, [], ◌∷◌, Option, Some, None, refl}
 use Rattle.std.specs.Prelude.{IsTrue, option_map, nat_le}
 use Rattle.step_meaning.specs.declared.value.CType.{CType}
 use Rattle.step_meaning.specs.declared.value.CType.TheVariants as type
@@ -30,8 +30,8 @@ use Rattle.step_meaning.proofs.TypedMemory.{InCell, Shape}
 use Rattle.step_meaning.proofs.TypedAccesses.{keeps_store}
 use Rattle.step_meaning.proofs.TypedOperators.{some_keeps, scalar_is_some}
 use Rattle.step_meaning.proofs.TypedPlaces.{taken_keeps}
-use Rattle.step_meaning.proofs.TypedExpressions.{register_types, own, ScalarRegisters, CallsKeep, keeps_eval, null_keeps}
-use Rattle.step_meaning.proofs.Kept.{Keeps, Always, keeps_pure, keeps_bind, keeps_weaker, keeps_cond, keeps_more, keeps_get, keeps_registers, keeps_emit, keeps_judge, keeps_put_ghosts}
+use Rattle.step_meaning.proofs.TypedExpressions.{register_types, ScalarRegisters, CallsKeep, keeps_eval, null_keeps}
+use Rattle.step_meaning.proofs.Kept.{Keeps, Always, keeps_pure, keeps_bind, keeps_cond, keeps_more, keeps_get, keeps_registers, keeps_emit, keeps_judge, keeps_put_ghosts}
 
 -- a value that is given back
 abbrev pub ReturnFits : CType → Option Value → Type 0

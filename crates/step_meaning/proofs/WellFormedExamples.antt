@@ -1,13 +1,11 @@
 -- A small program that is well formed, and programs that break one point each. The text of each core stands above it.
-use Rattle.std.proofs.Common.{◌≡◌, ℕ, true, false, refl, List, [], ◌∷◌, Some, None}
-use Rattle.std.specs.Prelude.{pos, negsuc, codes, IsTrue}
+use Rattle.std.proofs.Common.{ℕ, refl, List, [], ◌∷◌, Some, None}
+use Rattle.std.specs.Prelude.{pos, codes}
 use Rattle.step_meaning.specs.declared.value.IntKind.TheVariants as kind
 use Rattle.step_meaning.specs.declared.value.CType.{CType}
 use Rattle.step_meaning.specs.declared.value.CType.TheVariants as type
-use Rattle.step_meaning.specs.declared.value.NameKind.{NameKind}
 use Rattle.step_meaning.specs.declared.value.NameKind.TheVariants as names
 use Rattle.step_meaning.specs.declared.value.Name.{Name}
-use Rattle.step_meaning.specs.declared.value.Value.{Value}
 use Rattle.step_meaning.specs.declared.value.Value.TheVariants as value
 use Rattle.step_meaning.specs.declared.expr.IntOp.TheVariants as op
 use Rattle.step_meaning.specs.declared.expr.CompareOp.TheVariants as comparing
@@ -26,7 +24,7 @@ use Rattle.step_meaning.specs.declared.program.Core.{Core}
 use Rattle.step_meaning.specs.ExpressionTypes.{pointer_to}
 use Rattle.step_meaning.specs.Identifiers.{keywords, is_keyword}
 use Rattle.step_meaning.specs.WellFormed.{IsWellFormed, IsWellFormedFunction}
-use Rattle.step_meaning.proofs.Examples.{int, array_of, lit, global, local, load, deref, assign, binary, convert, compare, return}
+use Rattle.step_meaning.proofs.Examples.{int, lit, global, local, load, deref, assign, binary, convert, compare, return}
 
 -- ---- parts of programs
 

@@ -1,6 +1,6 @@
 -- Initial values of variables of file scope (C11 6.6, 6.7.9): what an initialiser can give, one value a cell.
 -- An integer constant expression gives any integer of the cell's type. A pointer is null, or the address of a part of a variable of file scope: of the variable, a member, or an element of an array with an index in range.
-use Rattle.std.specs.Prelude.{ℕ, zero, suc, ◌+◌, Bool, true, false, ◌&&◌, ◌==◌, nat_le, List, [], ◌∷◌, ◌++◌, map, slice_get, Option, Some, None, option_map}
+use Rattle.std.specs.Prelude.{ℕ, zero, suc, ◌+◌, Bool, true, false, ◌&&◌, ◌==◌, nat_lt, nat_le, List, [], ◌∷◌, ◌++◌, map, slice_get, Option, Some, None, option_map}
 use Rattle.std.specs.List.{list_any}
 use Rattle.step_meaning.specs.declared.value.CType.{CType, end_of-CType, more_of-CType}
 use Rattle.step_meaning.specs.declared.value.CType.TheVariants as type
@@ -60,9 +60,10 @@ is_part o t p = p.offset == o && same_type p.ctype t
 -- ---- values
 
 module _ (q : Core) where
+  -- a part of this type at this one of the variable's cells
   abbrev pub has_part : Option CType → ℕ → CType → Bool
   has_part None o t = false
-  has_part (Some u) o t = list_any (is_part o t) (parts q.layouts u)
+  has_part (Some u) o t = nat_lt o (cells q.layouts u) && list_any (is_part o t) (parts q.layouts u)
 
   -- the address of a part of this type in a variable of file scope, up to the one with number i (C11 6.6, 9; 6.2.1, 7)
   abbrev pub is_address : ℕ → CType → Name → ℕ → Bool

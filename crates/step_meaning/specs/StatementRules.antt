@@ -1,6 +1,6 @@
 -- What the statements of a function's body keep (C11 6.8): conditions are integers or pointers, `break` and `continue` stand in loops, `return` has a value exactly where the function has one, and expressions have types.
 -- Ghost code and assertions keep the rules on annotations.
-use Rattle.std.specs.Prelude.{ℕ, Bool, true, false, ◌&&◌, nat_le, List, [], ◌∷◌, slice_get, Option, Some, None, IsTrue}
+use Rattle.std.specs.Prelude.{ℕ, Bool, true, false, ◌&&◌, nat_le, List, slice_get, Option, Some, None, IsTrue}
 use Rattle.std.specs.List.{AllByRecursion}
 use Rattle.step_meaning.specs.declared.value.CType.{CType}
 use Rattle.step_meaning.specs.declared.value.CType.TheVariants.{Void}
