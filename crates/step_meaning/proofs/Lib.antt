@@ -15,3 +15,5 @@ pub mod FitExamples
 pub mod IntervalEnds
 pub mod ValuesInside
 pub mod FitsBounded
+pub mod TracedSights
+pub mod ScopeExamples

@@ -48,7 +48,7 @@ pub some_of_bind : {A B : Type 0} (f : A → Option B) (o : Option A) (b : B) �
 some_of_bind f None b e = none_is b e
 some_of_bind f (Some a) b e = (a, refl, e)
 
-some_of_map : {A B : Type 0} (f : A → B) (o : Option A) (b : B) → option_map f o ≡ Some b → (a : A) × (o ≡ Some a) × (f a ≡ b)
+pub some_of_map : {A B : Type 0} (f : A → B) (o : Option A) (b : B) → option_map f o ≡ Some b → (a : A) × (o ≡ Some a) × (f a ≡ b)
 some_of_map f None b e = none_is b e
 some_of_map f (Some a) b e = (a, refl, some_is (f a) b e)
 
@@ -200,7 +200,7 @@ read_inside reads u (term.PointerTo n (pos o)) v h e = by (nat_lt o (2 ^ 32)) e
 
 -- ---- operators
 
-by_cases : {A : Type 0} (x y : Option A) (v : A) (P : Type 0) (b : Bool) → (x ≡ Some v → P) → (y ≡ Some v → P) → cond b x y ≡ Some v → P
+pub by_cases : {A : Type 0} (x y : Option A) (v : A) (P : Type 0) (b : Bool) → (x ≡ Some v → P) → (y ≡ Some v → P) → cond b x y ≡ Some v → P
 by_cases x y v P true f h e = f e
 by_cases x y v P false f h e = h e
 
