@@ -229,7 +229,7 @@ elements_inside i j size x y v h k e =
     let first = some_of_bind (λ w. with_number y (λ n. term_moved (n *ℤ pos size) w)) x v e in
     let second = some_of_number (λ n. term_moved (n *ℤ pos size) first.0) y v first.2 in
     moved_inside i (times_size j size) (second.0 *ℤ pos size) first.0 v (h first.0 first.1)
-      (in_product j (alone (pos size)) second.0 (pos size) (k (Number second.0) second.1) (in_alone (pos size))) second.2
+    (in_product j (alone (pos size)) second.0 (pos size) (k (Number second.0) second.1) (in_alone (pos size))) second.2
 
 -- ---- what a step has of its own
 

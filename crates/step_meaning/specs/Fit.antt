@@ -89,7 +89,7 @@ hook_allowed q pt =
       accessed = is_access_place pt.place;
       called = λ g. is_call_place pt.place && nat_lt g (length q.functions);
       parameter_type = λ g i. if is_enter_place pt.place && g == pt.function then type_of_parameter q g i else None;
-      result_type = λ g. if is_return_place pt.place && g == pt.function then type_of_result q g else None
+      result_type = λ g. if is_return_place pt.place && g == pt.function then type_of_result q g else None;
     }
 
 -- ---- the code of a point
