@@ -1,6 +1,6 @@
 -- Predicates and terms that keep the rules on annotations, and others that break one, over
 -- `struct pair { int first; char second; }; int x; int *p; int a[10]; struct pair s; unsigned long u; unsigned long w; char *d; register int r; ghost int g; ghost int *h;`.
-use Rattle.std.proofs.Common.{◌≡◌, ℕ, ◌^◌, ◌-◌, ◌+◌, ◌*◌, true, false, refl, [], ◌∷◌, Some, None, cond, lit≤, arith, inl, inr}
+use Rattle.std.proofs.Common.{◌≡◌, ℕ, ◌^◌, ◌-◌, ◌+◌, ◌*◌, true, false, refl, [], ◌∷◌, Some, None, cond, lit≤, arith, inl, inr, ⊎_elim}
 use Rattle.std.specs.Prelude.{pos, negsuc, T, nat_eq, ◌&&◌}
 use Rattle.std.specs.Int.Signed.{le_z, le_z_yes}
 use Rattle.step_meaning.specs.declared.value.IntKind.TheVariants as kind
@@ -338,6 +338,9 @@ valid_access h = h.0
 pub some_is_not_none : {A : Type 0} (a : A) → None ≡ Some a → ⊥
 some_is_not_none a h = cc
 
+none_is_not_some : {A : Type 0} (a : A) → Some a ≡ None → ⊥
+none_is_not_some a h = cc
+
 -- the ends of a range are integers
 pointer_range : Fits (is.Valid (objects array int (whole 0) pointer)) → ⊥
 pointer_range f = cc
@@ -345,6 +348,10 @@ pointer_range f = cc
 -- `\separated(\written, &x)`
 separated : PredicateKinds setting everything (is.Separated (object t.Accessed type.Void ∷ object (t.Address (file 0) int) int ∷ []))
 separated = (lit≤ tt, (inr (refl, refl, refl), (inl (refl, tt), tt)))
+
+-- `\separated(\written + (0 .. 1), &x)`
+separated_range : PredicateKinds setting everything (is.Separated (objects t.Accessed type.Void (whole 0) (whole 1) ∷ object (t.Address (file 0) int) int ∷ [])) → ⊥
+separated_range h = ⊎_elim (λ f. f.0) (λ f. none_is_not_some _ f.2) h.1.0
 
 separated_alone : PredicateKinds setting nothing_else (is.Separated (object (t.Address (file 0) int) int ∷ [])) → ⊥
 separated_alone h = omega arith

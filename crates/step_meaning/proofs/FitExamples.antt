@@ -1,7 +1,7 @@
 -- Hooks that fit a program, and hooks that break one rule each. The program is
 -- `int x; int y; void f(void) { y = 1; } int main(void) { f(); x = 2; return 0; }`; where a parameter is needed it is `int x; void f(int n) { .. }`.
-use Rattle.std.proofs.Common.{◌≡◌, ℕ, zero, suc, ◌≤◌, ◌<◌, ◌^◌, ◌+◌, Bool, true, false, refl, List, [], ◌∷◌, length, replicate, Some, None, Option, lit≤, lit<, arith, subst, sym, inl, inr}
-use Rattle.std.specs.Prelude.{pos, cond, ◌==◌, ◌++◌}
+use Rattle.std.proofs.Common.{◌≡◌, ℕ, zero, suc, ◌≤◌, ◌<◌, ◌^◌, ◌+◌, Bool, true, false, refl, List, [], ◌∷◌, length, replicate, Some, None, Option, lit≤, lit<, arith, subst, sym, ap, ◌∙◌, append-nil, inl, inr}
+use Rattle.std.specs.Prelude.{pos, cond, ◌==◌, ◌++◌, IsTrue}
 use Rattle.std.proofs.lemmas.List.{length-replicate}
 use Rattle.step_meaning.specs.declared.value.CType.{CType}
 use Rattle.step_meaning.specs.declared.value.CType.TheVariants as type
@@ -107,7 +107,7 @@ saving_fits =
     enter =
         record {
           function = (_, (refl, tt));
-          saves = (record { scalar = tt; layouts = tt; rules = tt; depth = lit≤ tt }, tt);
+          saves = (record { scalar = tt; layouts = tt; rules = refl; depth = lit≤ tt }, tt);
           statements = (tt, tt);
           sets_own = (lit< tt, tt);
           saves_at_enter = (refl, tt);
@@ -137,6 +137,24 @@ saving_fits =
           fits = (record { kinds = refl; limited = ((limited _ tt tt tt tt, tt), (limited _ tt tt tt tt, (limited _ tt tt tt tt, tt), limited _ tt tt tt tt)) }, tt);
         }
 
+-- the same assertion at every step
+always_fits : PointFits recursion saving (point 2 place.Changed [] (one_more names.GhostLocal ∷ []))
+always_fits =
+    record {
+      function = (_, (refl, tt));
+      saves = tt;
+      statements = (refl, tt);
+      sets_own = (tt, tt);
+      saves_at_enter = (tt, tt);
+      no_ghost_address = search;
+      uses = ((tt, (tt, tt), (tt, (tt, lit< tt), tt)), tt);
+      changed = search;
+      past = search;
+      depth = (tt, tt);
+      size = (lit≤ tt, tt);
+      fits = (record { kinds = refl; limited = ((limited _ tt tt tt tt, tt), (limited _ tt tt tt tt, (limited _ tt tt tt tt, tt), limited _ tt tt tt tt)) }, tt);
+    }
+
 -- ---- hooks that don't fit: one point in the first program, with one ghost variable of file scope
 
 not_next : (n : ℕ) → suc n ≡ n → ⊥
@@ -144,6 +162,9 @@ not_next n h = omega arith
 
 abbrev one_point : HookPoint → Hooks
 one_point pt = hooks (declared int ∷ []) (pt ∷ [])
+
+refuted : IsTrue false → ⊥
+refuted h = cc
 
 abbrev Refused : HookPoint → Type 0
 Refused pt = Fit two_writes (one_point pt) → ⊥
@@ -167,7 +188,7 @@ array_save : Refused (point 2 place.Enter (declared (array_of int 3) ∷ []) [])
 array_save f = f.points.0.saves.0.scalar
 
 void_pointer_save : Refused (point 2 place.Enter (declared (pointer_to type.Void) ∷ []) [])
-void_pointer_save f = f.points.0.saves.0.rules
+void_pointer_save f = refuted f.points.0.saves.0.rules
 
 unknown_struct_save : Refused (point 2 place.Enter (declared (pointer_to (type.Struct 0)) ∷ []) [])
 unknown_struct_save f = let h : 0 < 0 = f.points.0.saves.0.layouts in omega arith
@@ -185,6 +206,11 @@ array_global f = f.globals.0.scalar
 -- at most 2 ^ 26 of them
 many_globals : (n : ℕ) → 2 ^ 26 < n → Fit two_writes (hooks (replicate n (declared int)) []) → ⊥
 many_globals n h f = let k : n ≤ 2 ^ 26 = subst (λ m. m ≤ 2 ^ 26) (length-replicate n (declared int)) f.few_globals in omega arith
+
+many_saves : (n : ℕ) → 2 ^ 26 < n → Fit two_writes (hooks [] (point 2 place.Enter (replicate n (declared int)) [] ∷ [])) → ⊥
+many_saves n h f =
+    let k : n ≤ 2 ^ 26 = subst (λ m. m ≤ 2 ^ 26) (ap length (append-nil (replicate n (declared int))) ∙ length-replicate n (declared int)) (f.few_saves 2) in
+    omega arith
 
 -- ghost statements, and assertions of the monitor
 other_statement : Refused (point 2 place.Enter [] (s.Eval (lit 0) ∷ []))

@@ -54,11 +54,11 @@ ends : (a : Allowed) (s : Sight) (i from to : Interval) (size : ℕ) (x y z : Op
 ends a s i from to size (Some (term.PointerTo n o)) (Some (Number b)) (Some (Number c)) l h k m =
     let first = in_product from (alone (pos size)) b (pos size) (k (Number b) refl) (in_alone (pos size)) in
     let past = in_product (sum to (alone (pos 1))) (alone (pos size)) (c +ℤ pos 1) (pos size) (in_sum to (alone (pos 1)) c (pos 1) (m (Number c) refl) (in_alone (pos 1))) (in_alone (pos size)) in
-    let base = h (term.PointerTo n o) refl in
-    ( within (times_size from size) (b *ℤ pos size) l.0 first
-    , within (times_size (sum to (alone (pos 1))) size) ((c +ℤ pos 1) *ℤ pos size) l.1 past
-    , within (sum i (times_size from size)) (o +ℤ (b *ℤ pos size)) l.2 (in_sum i (times_size from size) o (b *ℤ pos size) base first)
-    , within (sum i (times_size (sum to (alone (pos 1))) size)) (o +ℤ ((c +ℤ pos 1) *ℤ pos size)) l.3 (in_sum i (times_size (sum to (alone (pos 1))) size) o ((c +ℤ pos 1) *ℤ pos size) base past)
+    let base = h (term.PointerTo n o) refl in (
+      within (times_size from size) (b *ℤ pos size) l.0 first,
+      within (times_size (sum to (alone (pos 1))) size) ((c +ℤ pos 1) *ℤ pos size) l.1 past,
+      within (sum i (times_size from size)) (o +ℤ (b *ℤ pos size)) l.2 (in_sum i (times_size from size) o (b *ℤ pos size) base first),
+      within (sum i (times_size (sum to (alone (pos 1))) size)) (o +ℤ ((c +ℤ pos 1) *ℤ pos size)) l.3 (in_sum i (times_size (sum to (alone (pos 1))) size) o ((c +ℤ pos 1) *ℤ pos size) base past),
     )
 ends a s i from to size x y z l h k m = tt
 
@@ -83,10 +83,10 @@ module _ (g : Setting) (a : Allowed) (s : Sight) (typed : IsTypedSight g a s) wh
         let i = operation_kinds o (term_kind g a e) (term_kind g a f) k c in
         ((defined e reads h Integer i.0 l.1, parts e reads h Integer i.0 l.1), (defined f reads h Integer i.1 l.2, parts f reads h Integer i.1 l.2))
     parts (t.Move' b (more_of-Term e end_of-Term) d (more_of-Term f end_of-Term) size) reads h k c l =
-        let i = move_kinds g.layouts (term_kind g a e) (term_kind g a f) size k c in
-        ( (defined e reads h i.0.0 i.0.1 l.2, parts e reads h i.0.0 i.0.1 l.2)
-        , (defined f reads h Integer i.1 l.3, parts f reads h Integer i.1 l.3)
-        , product_within (interval a f) (value_by s f reads) size l.1 (value_inside g a s typed f reads h Integer i.1)
+        let i = move_kinds g.layouts (term_kind g a e) (term_kind g a f) size k c in (
+          (defined e reads h i.0.0 i.0.1 l.2, parts e reads h i.0.0 i.0.1 l.2),
+          (defined f reads h Integer i.1 l.3, parts f reads h Integer i.1 l.3),
+          product_within (interval a f) (value_by s f reads) size l.1 (value_inside g a s typed f reads h Integer i.1),
         )
     parts (t.AtPre q u) reads h k c l =
         let m = read_place g a (place_type g a q) u k (some_where (a.at_enter && is_fixed_place g a q) (kind_of_read g a (place_type g a q) u) k c) in
@@ -104,11 +104,11 @@ module _ (g : Setting) (a : Allowed) (s : Sight) (typed : IsTypedSight g a s) wh
         (place_defined (p.Member' b (more_of-TermPlace q end_of-TermPlace) o) reads h u c l.0, place_parts q reads h m.0 m.1 l.1)
     place_parts (p.Index' b (more_of-TermPlace q end_of-TermPlace) d (more_of-Term e end_of-Term) size) reads h u c l =
         let m = some_of_bind (λ u. element_type g.layouts u (term_kind g a e) size) (place_type g a q) u c in
-        let i = element_kind g.layouts m.0 (term_kind g a e) size u m.2 in
-        ( place_defined (p.Index' b (more_of-TermPlace q end_of-TermPlace) d (more_of-Term e end_of-Term) size) reads h u c l.0
-        , place_parts q reads h m.0 m.1 l.2
-        , (defined e reads h Integer i l.3, parts e reads h Integer i l.3)
-        , product_within (interval a e) (value_by s e reads) size l.1 (value_inside g a s typed e reads h Integer i)
+        let i = element_kind g.layouts m.0 (term_kind g a e) size u m.2 in (
+          place_defined (p.Index' b (more_of-TermPlace q end_of-TermPlace) d (more_of-Term e end_of-Term) size) reads h u c l.0,
+          place_parts q reads h m.0 m.1 l.2,
+          (defined e reads h Integer i l.3, parts e reads h Integer i l.3),
+          product_within (interval a e) (value_by s e reads) size l.1 (value_inside g a s typed e reads h Integer i),
         )
 
   term_bounded : (e : Term) (k : Kind) → term_kind g a e ≡ Some k → TermLimited a e → TermBounded s e (now s)
@@ -122,19 +122,19 @@ module _ (g : Setting) (a : Allowed) (s : Sight) (typed : IsTypedSight g a s) wh
   span_bounded : (base : Option TermValue) (i : Interval) (size : ℕ) (span : Option (Term × Term)) → RangeFits g a span → RangeLimited a i span size
       → ((v : TermValue) → base ≡ Some v → Inside i v) → SpanBounded s base span size
   span_bounded base i size None f l h = ends a s i (alone (pos 0)) (alone (pos 0)) size base (Some (Number (pos 0))) (Some (Number (pos 0))) l h zero_inside zero_inside
-  span_bounded base i size (Some e) f l h =
-      ( term_bounded e.0 Integer f.0 l.0
-      , term_bounded e.1 Integer f.1 l.1
-      , ends a s i (interval a e.0) (interval a e.1) size base (value_of s e.0) (value_of s e.1) l.2 h
-          (value_inside g a s typed e.0 (now s) typed.cells Integer f.0) (value_inside g a s typed e.1 (now s) typed.cells Integer f.1)
-      )
+  span_bounded base i size (Some e) f l h = (
+    term_bounded e.0 Integer f.0 l.0,
+    term_bounded e.1 Integer f.1 l.1,
+    ends a s i (interval a e.0) (interval a e.1) size base (value_of s e.0) (value_of s e.1) l.2 h
+        (value_inside g a s typed e.0 (now s) typed.cells Integer f.0) (value_inside g a s typed e.1 (now s) typed.cells Integer f.1),
+  )
 
   location_bounded : (l : Location) (k : Kind) → term_kind g a l.base ≡ Some k → RangeFits g a l.span → LocationLimited a g.layouts l → LocationBounded s l
-  location_bounded l k c f lim =
-      ( term_bounded l.base k c lim.0
-      , subst (λ ls. SpanBounded s (value_of s l.base) l.span (length (denoted_types ls l.ctype))) (sym typed.layouts)
-          (span_bounded (value_of s l.base) (interval a l.base) (length (denoted_types g.layouts l.ctype)) l.span f lim.1 (value_inside g a s typed l.base (now s) typed.cells k c))
-      )
+  location_bounded l k c f lim = (
+    term_bounded l.base k c lim.0,
+    subst (λ ls. SpanBounded s (value_of s l.base) l.span (length (denoted_types ls l.ctype))) (sym typed.layouts)
+        (span_bounded (value_of s l.base) (interval a l.base) (length (denoted_types g.layouts l.ctype)) l.span f lim.1 (value_inside g a s typed l.base (now s) typed.cells k c)),
+  )
 
   fitting_bounded : (l : Location) → LocationFits g a l → LocationLimited a g.layouts l → LocationBounded s l
   fitting_bounded l f lim = let k = object_kind g a (term_kind g a l.base) l.ctype f.0 in location_bounded l k.0 k.1 f.1 lim

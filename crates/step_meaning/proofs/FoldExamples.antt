@@ -125,8 +125,8 @@ recursion =
     program (declared int ∷ []) (zero_cell ∷ [])
     (record (function type.Void (declared int ∷ []) (s.Eval (assign (global 0) int (add (load (global 0))))
     ∷ s.If' (compare comparing.Greater (load (local 0)) (lit 0)) tt
-        (more_of-Stmt (s.Block' (tt ∷ tt ∷ []) (more_of-Stmt (call_f (subtract (load (local 0)))) (more_of-Stmt (s.Eval (assign (global 0) int (subtract (load (global 0))))) end_of-Stmt))) end_of-Stmt)
-        tt (more_of-Stmt s.Empty end_of-Stmt)
+    (more_of-Stmt (s.Block' (tt ∷ tt ∷ []) (more_of-Stmt (call_f (subtract (load (local 0)))) (more_of-Stmt (s.Eval (assign (global 0) int (subtract (load (global 0))))) end_of-Stmt))) end_of-Stmt)
+    tt (more_of-Stmt s.Empty end_of-Stmt)
     ∷ [])) { params = 1 }
     ∷ function int [] (call_f (lit 1) ∷ return (lit 0) ∷ [])
     ∷ []) 3
@@ -159,9 +159,9 @@ parameter_verdicts = refl
 -- a save that was not set holds nothing, a ghost variable of file scope 0; the order of points and of code counts
 unset_verdicts :
     found (fold recursion (hooks (declared int ∷ [])
-      ( point 3 place.Enter (declared int ∷ []) (safe (is.Relation comparing.Equal (read names.GhostLocal 0) (read names.GhostLocal 0)) ∷ safe (is.Relation comparing.Equal (read names.GhostGlobal 0) (t.Int (pos 0))) ∷ [])
-      ∷ point 3 place.Enter [] (s.Ghost (Set (variable names.GhostGlobal 0) (t.Int (pos 4))) ∷ safe (is.Relation comparing.Equal (read names.GhostGlobal 0) (t.Int (pos 4))) ∷ [])
-      ∷ [])) recursion_steps)
+    (point 3 place.Enter (declared int ∷ []) (safe (is.Relation comparing.Equal (read names.GhostLocal 0) (read names.GhostLocal 0)) ∷ safe (is.Relation comparing.Equal (read names.GhostGlobal 0) (t.Int (pos 0))) ∷ [])
+    ∷ point 3 place.Enter [] (s.Ghost (Set (variable names.GhostGlobal 0) (t.Int (pos 4))) ∷ safe (is.Relation comparing.Equal (read names.GhostGlobal 0) (t.Int (pos 4))) ∷ [])
+    ∷ [])) recursion_steps)
     ≡ (false ∷ true ∷ true ∷ [])
 unset_verdicts = refl
 

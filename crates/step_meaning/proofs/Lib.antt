@@ -31,3 +31,5 @@ pub mod ValuesInside
 pub mod FitsBounded
 mod TypedSizes
 pub mod TypedRuns
+pub mod TracedSights
+pub mod ScopeExamples

@@ -48,7 +48,7 @@ pub some_of_bind : {A B : Type 0} (f : A → Option B) (o : Option A) (b : B) �
 some_of_bind f None b e = none_is b e
 some_of_bind f (Some a) b e = (a, refl, e)
 
-some_of_map : {A B : Type 0} (f : A → B) (o : Option A) (b : B) → option_map f o ≡ Some b → (a : A) × (o ≡ Some a) × (f a ≡ b)
+pub some_of_map : {A B : Type 0} (f : A → B) (o : Option A) (b : B) → option_map f o ≡ Some b → (a : A) × (o ≡ Some a) × (f a ≡ b)
 some_of_map f None b e = none_is b e
 some_of_map f (Some a) b e = (a, refl, some_is (f a) b e)
 
@@ -200,7 +200,7 @@ read_inside reads u (term.PointerTo n (pos o)) v h e = by (nat_lt o (2 ^ 32)) e
 
 -- ---- operators
 
-by_cases : {A : Type 0} (x y : Option A) (v : A) (P : Type 0) (b : Bool) → (x ≡ Some v → P) → (y ≡ Some v → P) → cond b x y ≡ Some v → P
+pub by_cases : {A : Type 0} (x y : Option A) (v : A) (P : Type 0) (b : Bool) → (x ≡ Some v → P) → (y ≡ Some v → P) → cond b x y ≡ Some v → P
 by_cases x y v P true f h e = f e
 by_cases x y v P false f h e = h e
 
@@ -229,7 +229,7 @@ elements_inside i j size x y v h k e =
     let first = some_of_bind (λ w. with_number y (λ n. term_moved (n *ℤ pos size) w)) x v e in
     let second = some_of_number (λ n. term_moved (n *ℤ pos size) first.0) y v first.2 in
     moved_inside i (times_size j size) (second.0 *ℤ pos size) first.0 v (h first.0 first.1)
-      (in_product j (alone (pos size)) second.0 (pos size) (k (Number second.0) second.1) (in_alone (pos size))) second.2
+    (in_product j (alone (pos size)) second.0 (pos size) (k (Number second.0) second.1) (in_alone (pos size))) second.2
 
 -- ---- what a step has of its own
 

@@ -2,7 +2,7 @@
 use Rattle.std.specs.Prelude.{ℕ, Bool, false, slice_get, Option, None, option_and_then, option_map}
 use Rattle.step_meaning.specs.declared.value.CType.{CType}
 use Rattle.step_meaning.specs.declared.program.Core.{Core}
-use Rattle.step_meaning.specs.Traced.{parameter_types}
+use Rattle.step_meaning.specs.ExpressionTypes.{parameter_types}
 
 pub record Allowed : Type 0 where
   -- `\at(place, Pre)`

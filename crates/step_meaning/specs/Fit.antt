@@ -1,5 +1,5 @@
 -- Hooks that fit a core: what a weaver asks of the code that it puts beside a program's steps.
-use Rattle.std.specs.Prelude.{◌≡◌, ◌≢◌, ℕ, ◌+◌, ◌≤◌, ◌<◌, ◌^◌, nat_lt, Bool, true, false, ◌&&◌, if◌then◌else◌, ◌==◌, IsTrue, List, [], ◌∷◌, ◌++◌, length, replicate, slice_get, Option, None, option_and_then, option_map}
+use Rattle.std.specs.Prelude.{◌≡◌, ◌≢◌, ℕ, ◌+◌, ◌≤◌, ◌<◌, ◌^◌, nat_lt, Bool, true, false, ◌&&◌, if◌then◌else◌, ◌==◌, IsTrue, List, [], ◌∷◌, ◌++◌, length, replicate, None}
 use Rattle.std.specs.List.{AllByRecursion, AllPairs}
 use Rattle.step_meaning.specs.declared.value.CType.{CType, end_of-CType, more_of-CType}
 use Rattle.step_meaning.specs.declared.value.CType.TheVariants as type
@@ -25,7 +25,7 @@ use Rattle.step_meaning.specs.declared.program.HookPlace.{HookPlace}
 use Rattle.step_meaning.specs.declared.program.HookPlace.TheVariants as place
 use Rattle.step_meaning.specs.Settings.{Setting}
 use Rattle.step_meaning.specs.Traced.{IsFunctionOf}
-use Rattle.step_meaning.specs.TypePlaceholders.{TypeKeepsRules}
+use Rattle.step_meaning.specs.TypeRules.{keeps_rules}
 use Rattle.step_meaning.specs.TermSizes.{type_depth, ghost_depth, term_nodes_as_read, predicate_nodes_as_read}
 use Rattle.step_meaning.specs.TermParts.{Conditions, no_condition, EachInTerm, EachInPredicate, EachInCode}
 use Rattle.step_meaning.specs.Allowances.{Allowed, nothing_else, type_of_parameter, type_of_result}
@@ -50,7 +50,7 @@ NamesLayouts layouts _ = Unit {0}
 pub record IsGhostOf (q : Core) (d : Declared) : Type 0 where
   pub scalar : IsScalarType d.ctype
   pub layouts : NamesLayouts q.layouts d.ctype
-  pub rules : TypeKeepsRules q.layouts d.ctype
+  pub rules : IsTrue (keeps_rules q.layouts d.ctype)
   pub depth : type_depth d.ctype ≤ 100
 
 -- ---- places of points
@@ -89,7 +89,7 @@ hook_allowed q pt =
       accessed = is_access_place pt.place;
       called = λ g. is_call_place pt.place && nat_lt g (length q.functions);
       parameter_type = λ g i. if is_enter_place pt.place && g == pt.function then type_of_parameter q g i else None;
-      result_type = λ g. if is_return_place pt.place && g == pt.function then type_of_result q g else None
+      result_type = λ g. if is_return_place pt.place && g == pt.function then type_of_result q g else None;
     }
 
 -- ---- the code of a point

@@ -50,8 +50,8 @@ difference i j = from_to (i.low -ℤ j.high) (i.high -ℤ j.low)
 abbrev pub product : Interval → Interval → Interval
 product i j =
     from_to
-      (int_min (int_min (i.low *ℤ j.low) (i.low *ℤ j.high)) (int_min (i.high *ℤ j.low) (i.high *ℤ j.high)))
-      (int_max (int_max (i.low *ℤ j.low) (i.low *ℤ j.high)) (int_max (i.high *ℤ j.low) (i.high *ℤ j.high)))
+    (int_min (int_min (i.low *ℤ j.low) (i.low *ℤ j.high)) (int_min (i.high *ℤ j.low) (i.high *ℤ j.high)))
+    (int_max (int_max (i.low *ℤ j.low) (i.low *ℤ j.high)) (int_max (i.high *ℤ j.low) (i.high *ℤ j.high)))
 
 -- the greatest magnitude
 abbrev pub magnitude : Interval → ℤ

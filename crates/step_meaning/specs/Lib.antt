@@ -24,7 +24,6 @@ pub mod Traced
 pub mod Conversions
 pub mod TypeRules
 pub mod ExpressionTypes
-pub mod AnnotationRules
 pub mod StatementRules
 pub mod InitialValues
 pub mod Identifiers
@@ -42,7 +41,6 @@ pub mod Verdicts
 pub mod Fold
 pub mod FoldSimulation
 pub mod TermParts
-pub mod TypePlaceholders
 pub mod Scopes
 pub mod Fit
 pub mod FitsBounded

@@ -14,7 +14,7 @@ use Rattle.step_meaning.specs.declared.program.Core.{Core}
 use Rattle.step_meaning.specs.Sizes.{nodes, depth, nesting}
 use Rattle.step_meaning.specs.WellFormed.{IsWellFormed}
 use Rattle.step_meaning.specs.Normal.{IsNormal}
-use Rattle.step_meaning.specs.AnnotationRules.{predicate_nodes, term_nodes, ghost_depth, type_depth}
+use Rattle.step_meaning.specs.TermSizes.{predicate_nodes, term_nodes, ghost_depth, type_depth}
 
 -- ---- expressions and annotations
 

@@ -16,7 +16,7 @@ use Rattle.step_meaning.specs.Types.{object_cells}
 use Rattle.step_meaning.specs.Settings.{Setting, variable_type, setting_of, code_setting, leading_setting}
 use Rattle.step_meaning.specs.Calls.{annotations, after_annotations}
 use Rattle.step_meaning.specs.ExpressionTypes.{has_this_type, has_a_type, is_condition, gives}
-use Rattle.step_meaning.specs.AnnotationRules.{nothing_else, PredicateFits, GhostFits}
+use Rattle.step_meaning.specs.Annotations.{nothing_else, PredicateFits, GhostFits}
 
 -- monitors have the numbers 1 to 16
 abbrev pub is_monitor : ℕ → Bool
