@@ -9,3 +9,27 @@ pub mod EdgeCases
 pub mod Products
 pub mod TracedExamples
 pub mod Frames
+pub mod WellFormedExamples
+pub mod ExpressionTypeExamples
+pub mod IllFormedExamples
+pub mod NormalExamples
+mod Ranges
+mod OperatorRanges
+mod TypedMemory
+mod Kept
+mod TypedAccesses
+mod TypedOperators
+mod TypedPlaces
+mod TypedExpressions
+mod TypedStatements
+mod TypedCalls
+pub mod AnnotationExamples
+pub mod FoldExamples
+pub mod FitExamples
+pub mod IntervalEnds
+pub mod ValuesInside
+pub mod FitsBounded
+mod TypedSizes
+pub mod TypedRuns
+pub mod TracedSights
+pub mod ScopeExamples

@@ -62,10 +62,10 @@ memory_fits = record { globals = refl; globals_typed = no_blocks; locals_typed =
     locals (suc k) d lt = absurd (omega arith)
 
 enter_fits : IsStepOf empty_main enter
-enter_fits = record { memory = memory_fits; own_function = refl; pointers = λ k d lt. absurd (omega arith); executed = (main, (refl, tt), tt); is_open = (open_frame, refl, tt) }
+enter_fits = record { memory = memory_fits; own_function = refl; pointers = λ k d lt. absurd (omega arith); accesses = tt; executed = (main, (refl, tt), tt); is_open = (open_frame, refl, tt) }
 
 leave_fits : IsStepOf empty_main leave
-leave_fits = record { memory = memory_fits; own_function = refl; pointers = tt; executed = (main, (refl, tt), refl); is_open = (open_frame, refl, tt) }
+leave_fits = record { memory = memory_fits; own_function = refl; pointers = tt; accesses = tt; executed = (main, (refl, tt), refl); is_open = (open_frame, refl, tt) }
 
 empty_main_traced : IsTraced empty_main (enter ∷ leave ∷ [])
 empty_main_traced = record {

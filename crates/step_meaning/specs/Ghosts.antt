@@ -69,26 +69,32 @@ ghost_put ghosts names.GhostGlobal a i c = record ghosts { globals = at_block (s
 ghost_put ghosts names.GhostLocal a i c = record ghosts { frames = at_frame (at_block (set_cell c 0) i) a ghosts.frames }
 ghost_put ghosts _ a i c = ghosts
 
--- ---- ghost code
+-- ---- ghost code in a view, whose ghost variables are those so far
 
-module _ (layouts : List Layout) (here : Here) (memory : Memory) (registers : Registers) where
-  -- what ghost code sees, with the ghost variables so far
+module _ (s : Sight) where
   abbrev pub sight_with : Memory → Sight
-  sight_with ghosts = ghost_sight layouts here memory registers ghosts
+  sight_with ghosts = record s { ghosts = ghosts }
 
   abbrev pub ghost_set : Variable → Option Value → Memory → Memory
-  ghost_set v new ghosts = ghost_put ghosts v.kind here.activation v.index (ghost_cell (ghost_type ghosts v.kind here.activation v.index) new)
+  ghost_set v new ghosts = ghost_put ghosts v.kind s.activation v.index (ghost_cell (ghost_type ghosts v.kind s.activation v.index) new)
 
   abbrev mutual
-    -- the ghost variables after ghost code
-    pub ghosts_after : GhostStmt → Memory → Memory
-    ghosts_after (Set v e) ghosts = ghost_set v (option_and_then scalar_value (value_of (sight_with ghosts) e)) ghosts
-    ghosts_after (When' r a g b h) ghosts = cond (holds (sight_with ghosts) r) (ghosts_after_all g ghosts) (ghosts_after_all h ghosts)
+    -- the ghost variables as ghost code leaves them
+    pub ghosts_by : GhostStmt → Memory → Memory
+    ghosts_by (Set v e) ghosts = ghost_set v (option_and_then scalar_value (value_of (sight_with ghosts) e)) ghosts
+    ghosts_by (When' r a g b h) ghosts = cond (holds (sight_with ghosts) r) (ghosts_by_all g ghosts) (ghosts_by_all h ghosts)
 
-    pub ghosts_after_all : {n : _} → Row_of-GhostStmt n → Memory → Memory
-    ghosts_after_all end_of-GhostStmt ghosts = ghosts
-    ghosts_after_all (more_of-GhostStmt g more) ghosts = ghosts_after_all more (ghosts_after g ghosts)
+    pub ghosts_by_all : {n : _} → Row_of-GhostStmt n → Memory → Memory
+    ghosts_by_all end_of-GhostStmt ghosts = ghosts
+    ghosts_by_all (more_of-GhostStmt g more) ghosts = ghosts_by_all more (ghosts_by g ghosts)
+
+-- ---- the same in a program
+
+module _ (layouts : List Layout) (here : Here) (memory : Memory) (registers : Registers) where
+  -- the ghost variables after ghost code
+  abbrev pub ghosts_after : GhostStmt → Memory → Memory
+  ghosts_after g ghosts = ghosts_by (ghost_sight layouts here memory registers ghosts) g ghosts
 
   -- the truth of an assertion
   abbrev pub assertion_holds : Memory → Predicate → Bool
-  assertion_holds ghosts r = holds (sight_with ghosts) r
+  assertion_holds ghosts r = holds (ghost_sight layouts here memory registers ghosts) r

@@ -30,8 +30,11 @@ abbrev pub ghost_start : CType → Value
 ghost_start (type.Int k) = value.Int (pos 0)
 ghost_start _ = value.Null
 
+abbrev pub ghost_block : List Layout → Declared → Block
+ghost_block layouts d = filled (empty_block layouts d) (ghost_start d.ctype ∷ [])
+
 abbrev pub start_ghosts : Core → Memory
-start_ghosts q = record { globals = map (λ d. filled (empty_block q.layouts d) (ghost_start d.ctype ∷ [])) q.ghosts; frames = [] }
+start_ghosts q = record { globals = map (ghost_block q.layouts) q.ghosts; frames = [] }
 
 abbrev pub start_state : Core → List ℕ → State
 start_state q input = record { memory = start_memory q; ghosts = start_ghosts q; input = input; made = 0 }

@@ -1,6 +1,6 @@
 -- Lists of steps that are traced for a core: conditions on the activations, memories and values of a list of steps. A list that meets them need not be one of a run.
 -- A law about monitors speaks of all such lists.
-use Rattle.std.specs.Prelude.{◌≡◌, ◌≢◌, ◌↔◌, ℕ, suc, ◌≤◌, ◌<◌, ◌^◌, Bool, true, false, List, [], ◌∷◌, map, length, take, slice_get, Option, Some, None, IsTrue, All, AllPairs}
+use Rattle.std.specs.Prelude.{◌≡◌, ◌≢◌, ◌↔◌, ℕ, suc, ◌≤◌, ◌<◌, ◌^◌, Bool, true, false, List, [], ◌∷◌, map, length, slice_get, Option, Some, None, IsTrue, All, AllPairs}
 use Rattle.step_meaning.specs.declared.value.CType.{CType}
 use Rattle.step_meaning.specs.declared.value.CType.TheVariants as type
 use Rattle.step_meaning.specs.declared.value.NameKind.{NameKind}
@@ -18,6 +18,7 @@ use Rattle.step_meaning.specs.Numbers.{is_in_range}
 use Rattle.step_meaning.specs.Memory.{Memory, Frame, Slot, Block, empty_block, frame_of}
 use Rattle.step_meaning.specs.Steps.{Step}
 use Rattle.step_meaning.specs.Limits.{is_enter}
+use Rattle.step_meaning.specs.ExpressionTypes.{parameter_types}
 
 -- ---- values
 
@@ -37,6 +38,12 @@ HasType (type.Int k) (value.Int z) = IsTrue (is_in_range k z)
 HasType (type.Pointer' b t) value.Null = Unit {0}
 HasType (type.Pointer' b t) (value.Pointer n o) = o < 2 ^ 32
 HasType _ _ = ⊥
+
+-- null, or a pointer whose offset has 32 bits
+abbrev pub IsPointer : Value → Type 0
+IsPointer (value.Int z) = ⊥
+IsPointer value.Null = Unit {0}
+IsPointer (value.Pointer n o) = o < 2 ^ 32
 
 abbrev pub HaveTypes : List CType → List Value → Type 0
 HaveTypes [] [] = Unit {0}
@@ -85,6 +92,12 @@ PointsOnlyIntoProgram (act.Read p) = PointsIntoProgram p
 PointsOnlyIntoProgram (act.Write p v) = PointsIntoProgram p
 PointsOnlyIntoProgram _ = Unit {0}
 
+-- an access is at a pointer
+abbrev pub AccessesPointer : Action → Type 0
+AccessesPointer (act.Read p) = IsPointer p
+AccessesPointer (act.Write p v) = IsPointer p
+AccessesPointer _ = Unit {0}
+
 abbrev pub HasBody : Option (List Stmt) → Type 0
 HasBody None = ⊥
 HasBody (Some body) = Unit {0}
@@ -99,9 +112,6 @@ ResultHasType type.Void None = Unit {0}
 ResultHasType type.Void (Some v) = ⊥
 ResultHasType t None = ⊥
 ResultHasType t (Some v) = HasType t v
-
-abbrev pub parameter_types : Function → List CType
-parameter_types f = map (λ d. d.ctype) (take f.params f.locals)
 
 -- arguments and results have the function's types
 abbrev pub ActionHasTypes : Function → Action → Type 0
@@ -127,6 +137,7 @@ pub record IsStepOf (q : Core) (s : Step) : Type 0 where
   pub memory : IsProgramMemory q s.memory
   pub own_function : NamesOwn s.action s.function
   pub pointers : PointsOnlyIntoProgram s.action
+  pub accesses : AccessesPointer s.action
   pub executed : (f : Function) × IsFunctionOf q s.function f × ActionHasTypes f s.action
   -- the step's own activation is open
   pub is_open : (r : Frame) × (frame_of s.activation s.memory.frames ≡ Some r) × ParametersHold s.action r

@@ -1,4 +1,6 @@
+ghost use Rattle.step_meaning.specs.FaultsHalt.{WellFormedFaultsHalt};
 ghost use Rattle.step_meaning.specs.First.{SameFirstSteps};
+ghost use Rattle.step_meaning.specs.FitsBounded.{FitsBounded, TracedSightsTyped};
 ghost use Rattle.step_meaning.specs.Limits.{OutcomeComputed};
 ghost use Rattle.step_meaning.specs.Runs.{FlowsAgree};
 
@@ -15,4 +17,20 @@ pub fn flows_agree()
 /// The outcome of a run within limits on steps, cells and activations exists, is unique, and is computed along the run.
 pub fn outcome_is_computed()
     ensures { OutcomeComputed }
+{}
+
+/// A run of a well-formed program that ends by a fault ends with a Halt step of that fault: it never does what no typed
+/// program does.
+pub fn faults_halt()
+    ensures { WellFormedFaultsHalt }
+{}
+
+/// A predicate or term that fits is bounded in each view whose cells, parameters and result hold values of their types.
+pub fn fits_bounded()
+    ensures { FitsBounded }
+{}
+
+/// Each step of a traced list gives such a view.
+pub fn traced_sights_typed()
+    ensures { TracedSightsTyped }
 {}

@@ -1,0 +1,82 @@
+-- Rules on types (C11 6.2.5, 6.7.2.1, 6.7.6.1, 6.7.6.2), with the limit of 65,536 cells on an array and on a struct.
+-- A type is read where the structs with numbers below `complete` are complete, and those with numbers below `declared` may stand behind a pointer. In the definition of a struct the second has that struct besides.
+use Rattle.std.specs.Prelude.{ℕ, zero, suc, ◌-◌, Bool, true, false, ◌&&◌, nat_lt, nat_le, if◌then◌else◌, List, [], ◌∷◌, ◌++◌, length, sum_by, Option, Some, None}
+use Rattle.std.specs.List.{list_all}
+use Rattle.step_meaning.specs.declared.value.CType.{CType, end_of-CType, more_of-CType}
+use Rattle.step_meaning.specs.declared.value.CType.TheVariants.{Void, Int, Pointer', Array', Struct}
+use Rattle.step_meaning.specs.declared.program.Layout.{Layout}
+use Rattle.step_meaning.specs.declared.program.Declared.{Declared}
+use Rattle.step_meaning.specs.Types.{object_cells}
+
+-- the cells of an object of the type
+abbrev pub cells : List Layout → CType → ℕ
+cells layouts t = length (object_cells layouts t)
+
+abbrev pub most_cells : ℕ
+most_cells = 65536
+
+-- the integer and the pointer types (C11 6.2.5, 21)
+abbrev pub is_scalar : CType → Bool
+is_scalar (Int k) = true
+is_scalar (Pointer' b t) = true
+is_scalar _ = false
+
+-- ---- types of objects
+
+module _ (layouts : List Layout) (declared : ℕ) where
+  -- the type of a variable or member: complete, with arrays of one element or more of a complete type, and within the limit.
+  -- What a pointer points to has such a type too, or is the struct whose definition this stands in. `void` is no such type, behind a pointer neither
+  abbrev pub is_object_type : CType → Bool
+  is_object_type Void = false
+  is_object_type (Int k) = true
+  is_object_type (Pointer' b (more_of-CType (Struct n) end_of-CType)) = nat_lt n declared
+  is_object_type (Pointer' b (more_of-CType t end_of-CType)) = is_object_type t
+  is_object_type (Array' b (more_of-CType t end_of-CType) n) = is_object_type t && (nat_le 1 n && nat_le (cells layouts (Array' b (more_of-CType t end_of-CType) n)) most_cells)
+  is_object_type (Struct n) = nat_lt n (length layouts)
+
+-- ---- structs
+
+-- a struct after these: it has a member, its members name earlier structs or, behind a pointer, the struct itself, and it keeps the limit (C11 6.7.2.1, 3 and 8)
+abbrev pub is_layout_after : List Layout → Layout → Bool
+is_layout_after before l =
+    nat_le 1 (length l.members)
+    && (list_all (λ d. is_object_type before (suc (length before)) d.ctype) l.members
+    && nat_le (sum_by (λ d. cells before d.ctype) l.members) most_cells)
+
+abbrev pub are_layouts_after : List Layout → List Layout → Bool
+are_layouts_after before [] = true
+are_layouts_after before (l ∷ ls) = is_layout_after before l && are_layouts_after (before ++ (l ∷ [])) ls
+
+-- the structs of a program, each after those before it
+abbrev pub are_layouts : List Layout → Bool
+are_layouts ls = are_layouts_after [] ls
+
+-- ---- types in a program with these structs
+
+-- the type of a variable
+abbrev pub keeps_rules : List Layout → CType → Bool
+keeps_rules layouts t = is_object_type layouts (length layouts) t
+
+-- an integer or a pointer
+abbrev pub is_scalar_type : List Layout → CType → Bool
+is_scalar_type layouts t = is_scalar t && keeps_rules layouts t
+
+-- what a type name spells: an integer type or a struct, and pointers to it (C11 6.7.7 without arrays and functions)
+abbrev pub is_spelled : CType → Bool
+is_spelled (Int k) = true
+is_spelled (Struct n) = true
+is_spelled (Pointer' b (more_of-CType t end_of-CType)) = is_spelled t
+is_spelled _ = false
+
+-- the type of a function's result: `void`, or an integer or pointer type that a type name spells (C11 6.9.1, 3)
+abbrev pub is_result_type : List Layout → CType → Bool
+is_result_type layouts Void = true
+is_result_type layouts t = is_scalar_type layouts t && is_spelled t
+
+-- ---- members
+
+-- the type of the member before which the members have so many cells together
+abbrev pub member_at : List Layout → List Declared → ℕ → Option CType
+member_at layouts [] o = None
+member_at layouts (d ∷ ds) zero = Some d.ctype
+member_at layouts (d ∷ ds) (suc o) = if nat_le (cells layouts d.ctype) (suc o) then member_at layouts ds (suc o - cells layouts d.ctype) else None
