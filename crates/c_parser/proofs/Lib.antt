@@ -13,6 +13,7 @@ pub mod Taking
 pub mod TokenFacts
 pub mod WholeLaws
 pub mod WordFacts
+pub mod Prefixes
 pub mod ItemWords
 pub mod ItemLaws
 pub mod TreeLaws

@@ -1,6 +1,7 @@
 //! Items (C11 6.9).
 
 ghost use Rattle.std.specs.Prelude.{◌≡◌, suc};
+ghost use Rattle.std.specs.List.{list_all};
 ghost use Rattle.c_grammar.specs.Programs as grammar;
 ghost use Rattle.c_grammar.specs.Parsing.{Reads, take_if, run_at};
 ghost use Rattle.c_statements.specs.StatementReading.{unless};
@@ -14,7 +15,7 @@ use c_declarations::held::{then_base, then_expect, then_stars, unless_refused};
 use c_declarations::parameter::then_params;
 use c_expressions::chain::run;
 use c_expressions::types::consts;
-use c_grammar::chain::Chain;
+use c_grammar::chain::{Chain, Link};
 use c_grammar::cursor::{Cursor, same};
 use c_grammar::declaration::{Declared, Parameter, Params};
 use c_grammar::fault::ParseFault;
@@ -48,14 +49,15 @@ pub(crate) fn begins_item(word: Word) -> bool
 }
 
 /// One of `static`, `extern` and `const`.
+#[tactic(auto, using(crate::proofs::Prefixes::takes_next, crate::proofs::Prefixes::takes_none))]
 fn prefix(tokens: &mut Cursor<'_>) -> Result<Leaf, ParseFault>
     ensures { Reads (take_if grammar.is_function_prefix tokens.old) result tokens.new }
 {
-    match tokens.peek() {
-        Word::Extern => tokens.expect(Word::Extern),
-        Word::Static => tokens.expect(Word::Static),
-        Word::Const => tokens.expect(Word::Const),
-        _ => Err(tokens.refuse()),
+    let word = tokens.peek();
+    if is_function_prefix(word) {
+        tokens.expect(word)
+    } else {
+        Err(tokens.refuse())
     }
 }
 
@@ -68,6 +70,12 @@ fn is_named(parameter: &Parameter) -> bool
     }
 }
 
+fn rest_named(links: &[Link<Parameter>]) -> bool
+    ensures { result ≡ list_all (λ l. grammar.is_named l.operand) links.now }
+{
+    links.iter().all(|link| is_named(&link.operand))
+}
+
 /// Whether each parameter has a name.
 #[tactic(auto, unfolding(c_grammar::specs::Programs::all_named))]
 fn all_named(params: &Params) -> bool
@@ -75,12 +83,7 @@ fn all_named(params: &Params) -> bool
 {
     match params {
         Params::Empty | Params::Void(_) => true,
-        Params::List(all) => is_named(&all.first)
-            && all
-                .rest
-                .as_slice()
-                .iter()
-                .all(|link| is_named(&link.operand)),
+        Params::List(all) => is_named(&all.first) && rest_named(all.rest.as_slice()),
     }
 }
 
@@ -114,14 +117,22 @@ impl ItemReader {
         })
     }
 
-    #[tactic(auto, unfolding(crate::specs::ItemReading::members))]
-    fn members(&self, tokens: &mut Cursor<'_>) -> Result<Items<Member>, ParseFault>
-        ensures { Reads (spec.members self.now.depth self.now.inside tokens.old) result tokens.new }
+    /// Members, as long as the next word can begin one.
+    fn some_members(&self, tokens: &mut Cursor<'_>) -> Result<Items<Member>, ParseFault>
+        ensures { Reads (run_at spec.begins_member (spec.member self.now.depth self.now.inside) tokens.old) result tokens.new }
     {
         let member = |tokens: &mut Cursor<'_>| -> Result<Member, ParseFault>
             ensures { Reads (spec.member self.entry.now.depth self.entry.now.inside tokens.old) result tokens.new }
         { self.member(tokens) };
-        let all = run(self.alloc, tokens, &begins_member, &member)?;
+        run(self.alloc, tokens, &begins_member, &member)
+    }
+
+    /// A struct has a member.
+    #[tactic(auto, unfolding(crate::specs::ItemReading::members))]
+    fn members(&self, tokens: &mut Cursor<'_>) -> Result<Items<Member>, ParseFault>
+        ensures { Reads (spec.members self.now.depth self.now.inside tokens.old) result tokens.new }
+    {
+        let all = self.some_members(tokens)?;
         let refused = all.is_empty();
         unless_refused(all, tokens, refused)
     }
