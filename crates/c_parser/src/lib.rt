@@ -8,8 +8,6 @@ mod item;
 mod lexeme;
 mod look;
 mod names;
-#[cfg(test)]
-mod part_tests;
 mod program;
 mod reader;
 mod scope;

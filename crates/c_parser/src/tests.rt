@@ -374,49 +374,70 @@ fn sum(value: &Assign) -> Option<&Sum> {
     }
 }
 
+/// Whether `a - b * c / d - e` is grouped from the left: three operands, of which the second has three factors.
+fn is_grouped_from_the_left(Sum(chain): &Sum) -> bool {
+    let [second, third] = chain.rest.as_slice() else {
+        return false;
+    };
+    let [times, over] = second.operand.0.rest.as_slice() else {
+        return false;
+    };
+    chain.first.0.rest.is_empty()
+        && second.operator.word == Word::Minus
+        && third.operator.word == Word::Minus
+        && third.operand.0.rest.is_empty()
+        && times.operator.word == Word::Star
+        && over.operator.word == Word::Slash
+}
+
+/// The first part of the body of the first function.
+fn first_part(tree: &ProgramTree) -> Option<&BlockPart> {
+    match tree.items.as_slice() {
+        [Item::Function(_, _, _, _, _, _, _, Body::Block(body))] => match body.parts.as_slice() {
+            [part] => Some(part),
+            _ => None,
+        },
+        _ => None,
+    }
+}
+
+fn has_chain(tree: &ProgramTree) -> bool {
+    match first_part(tree) {
+        Some(BlockPart::Stmt(Stmt::Expression(value, _))) => match sum(value) {
+            Some(sum) => is_grouped_from_the_left(sum),
+            None => false,
+        },
+        _ => false,
+    }
+}
+
+fn has_nearest_else(tree: &ProgramTree) -> bool {
+    match first_part(tree) {
+        Some(BlockPart::Stmt(Stmt::If(_, _, _, _, first))) => {
+            matches!(first.get(), Stmt::IfElse(_, _, _, _, _, _, _))
+        }
+        _ => false,
+    }
+}
+
 #[test]
 fn reads_chains_from_the_left(rt: HostRuntime) -> Result<(), Fail> {
-    let tree = parse(&rt, "int main(void) { a - b * c / d - e; }", Mode::Source)?.map_err(
-        |_| Fail::from("refused"),
-    )?;
-    let [Item::Function(_, _, _, _, _, _, _, Body::Block(body))] = tree.items.as_slice() else {
-        return Err(Fail::from("no function"));
-    };
-    let [BlockPart::Stmt(Stmt::Expression(value, _))] = body.parts.as_slice() else {
-        return Err(Fail::from("no expression"));
-    };
-    let Sum(chain) = sum(value).ok_or("no sum")?;
-    assert!(rt; chain.first.0.rest.is_empty());
-    let [second, third] = chain.rest.as_slice() else {
-        return Err(Fail::from("not three operands"));
-    };
-    assert!(rt; second.operator.word == Word::Minus);
-    assert!(rt; third.operator.word == Word::Minus);
-    assert!(rt; third.operand.0.rest.is_empty());
-    let [times, over] = second.operand.0.rest.as_slice() else {
-        return Err(Fail::from("not three factors"));
-    };
-    assert!(rt; times.operator.word == Word::Star);
-    assert!(rt; over.operator.word == Word::Slash);
-    Ok(())
+    match parse(&rt, "int main(void) { a - b * c / d - e; }", Mode::Source)? {
+        Ok(tree) if has_chain(&tree) => Ok(()),
+        _ => Err(Fail::from("refused, or grouped in another way")),
+    }
 }
 
 #[test]
 fn gives_an_else_to_the_nearest_if(rt: HostRuntime) -> Result<(), Fail> {
-    let tree = parse(
+    match parse(
         &rt,
         "int main(void) { if (a) if (b) x; else y; }",
         Mode::Source,
-    )?
-    .map_err(|_| Fail::from("refused"))?;
-    let [Item::Function(_, _, _, _, _, _, _, Body::Block(body))] = tree.items.as_slice() else {
-        return Err(Fail::from("no function"));
-    };
-    let [BlockPart::Stmt(Stmt::If(_, _, _, _, first))] = body.parts.as_slice() else {
-        return Err(Fail::from("no `if` without `else`"));
-    };
-    assert!(rt; matches!(first.get(), Stmt::IfElse(_, _, _, _, _, _, _)));
-    Ok(())
+    )? {
+        Ok(tree) if has_nearest_else(&tree) => Ok(()),
+        _ => Err(Fail::from("refused, or given to the outer `if`")),
+    }
 }
 
 /// A realistic program.
