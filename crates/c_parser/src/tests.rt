@@ -349,10 +349,25 @@ fn refuses_what_nests_too_deep(rt: HostRuntime) -> Result<(), Fail> {
     Ok(())
 }
 
-/// The sum that an expression is, if it is no more.
-fn sum(value: &Assign) -> Option<&Sum> {
+/// Whether `a - b * c / d - e` is grouped from the left: three operands, of which the second has three factors.
+fn is_grouped_from_the_left(Sum(chain): &Sum) -> bool {
+    let [second, third] = chain.rest.as_slice() else {
+        return false;
+    };
+    let [times, over] = second.operand.0.rest.as_slice() else {
+        return false;
+    };
+    chain.first.0.rest.is_empty()
+        && second.operator.word == Word::Minus
+        && third.operator.word == Word::Minus
+        && third.operand.0.rest.is_empty()
+        && times.operator.word == Word::Star
+        && over.operator.word == Word::Slash
+}
+
+fn has_chain(value: &Assign) -> bool {
     match value {
-        Assign::Choice(Choice::Or(or)) => Some(
+        Assign::Choice(Choice::Or(or)) => is_grouped_from_the_left(
             &or.0
                 .first
                 .0
@@ -370,60 +385,39 @@ fn sum(value: &Assign) -> Option<&Sum> {
                 .0
                 .first,
         ),
-        _ => None,
-    }
-}
-
-/// Whether `a - b * c / d - e` is grouped from the left: three operands, of which the second has three factors.
-fn is_grouped_from_the_left(Sum(chain): &Sum) -> bool {
-    let [second, third] = chain.rest.as_slice() else {
-        return false;
-    };
-    let [times, over] = second.operand.0.rest.as_slice() else {
-        return false;
-    };
-    chain.first.0.rest.is_empty()
-        && second.operator.word == Word::Minus
-        && third.operator.word == Word::Minus
-        && third.operand.0.rest.is_empty()
-        && times.operator.word == Word::Star
-        && over.operator.word == Word::Slash
-}
-
-/// The first part of the body of the first function.
-fn first_part(tree: &ProgramTree) -> Option<&BlockPart> {
-    match tree.items.as_slice() {
-        [Item::Function(_, _, _, _, _, _, _, Body::Block(body))] => match body.parts.as_slice() {
-            [part] => Some(part),
-            _ => None,
-        },
-        _ => None,
-    }
-}
-
-fn has_chain(tree: &ProgramTree) -> bool {
-    match first_part(tree) {
-        Some(BlockPart::Stmt(Stmt::Expression(value, _))) => match sum(value) {
-            Some(sum) => is_grouped_from_the_left(sum),
-            None => false,
-        },
         _ => false,
     }
 }
 
-fn has_nearest_else(tree: &ProgramTree) -> bool {
-    match first_part(tree) {
-        Some(BlockPart::Stmt(Stmt::If(_, _, _, _, first))) => {
+fn is_chain(parts: &[BlockPart]) -> bool {
+    match parts {
+        [BlockPart::Stmt(Stmt::Expression(value, _))] => has_chain(value),
+        _ => false,
+    }
+}
+
+/// Whether the first `if` has no `else`, and the one in it has.
+fn has_nearest_else(parts: &[BlockPart]) -> bool {
+    match parts {
+        [BlockPart::Stmt(Stmt::If(_, _, _, _, first))] => {
             matches!(first.get(), Stmt::IfElse(_, _, _, _, _, _, _))
         }
         _ => false,
     }
 }
 
+/// The parts of the body of the only function.
+fn parts(tree: &ProgramTree) -> &[BlockPart] {
+    match tree.items.as_slice() {
+        [Item::Function(_, _, _, _, _, _, _, Body::Block(body))] => body.parts.as_slice(),
+        _ => &[],
+    }
+}
+
 #[test]
 fn reads_chains_from_the_left(rt: HostRuntime) -> Result<(), Fail> {
     match parse(&rt, "int main(void) { a - b * c / d - e; }", Mode::Source)? {
-        Ok(tree) if has_chain(&tree) => Ok(()),
+        Ok(tree) if is_chain(parts(&tree)) => Ok(()),
         _ => Err(Fail::from("refused, or grouped in another way")),
     }
 }
@@ -435,7 +429,7 @@ fn gives_an_else_to_the_nearest_if(rt: HostRuntime) -> Result<(), Fail> {
         "int main(void) { if (a) if (b) x; else y; }",
         Mode::Source,
     )? {
-        Ok(tree) if has_nearest_else(&tree) => Ok(()),
+        Ok(tree) if has_nearest_else(parts(&tree)) => Ok(()),
         _ => Err(Fail::from("refused, or given to the outer `if`")),
     }
 }

@@ -84,7 +84,7 @@ keep_x_fits =
     }
 
 keep_x_alone : FitTogether two_writes (keep_x ∷ [])
-keep_x_alone = record { each = (keep_x_fits, tt); from_one = ((lit≤ tt, lit≤ tt), tt); distinct = λ i j d lt lt'. absurd (omega arith); numbered = (refl, tt) }
+keep_x_alone = record { each = (keep_x_fits, tt); from_one = ((lit≤ tt, lit≤ tt), tt); distinct = λ i j d lt lt'. absurd (omega arith); numbered = ((λ some. refl), tt) }
 
 -- the same twice has one monitor number
 keep_x_twice : FitTogether two_writes (keep_x ∷ keep_x ∷ []) → ⊥

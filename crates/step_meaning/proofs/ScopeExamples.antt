@@ -20,7 +20,7 @@ core layouts functions = record { layouts = layouts; globals = []; initial = [];
 
 -- a struct of an `int` and a pointer to the struct itself
 abbrev cons : Layout
-cons = record { tag = []; members = declared int ∷ declared (pointer_to (type.Struct 0)) ∷ [] }
+cons = record { tag = []; members = declared int ∷ record { name = 110 ∷ []; ctype = pointer_to (type.Struct 0) } ∷ [] }
 
 abbrev entry : ℕ → CType → Entry
 entry name t = record { name = name ∷ []; variable = record { kind = names.Global; index = 0 }; ctype = t }
@@ -34,6 +34,8 @@ kept =
       distinct_entries = λ i j d lt lt'. absurd (omega arith);
       distinct_functions = λ i j d lt lt'. absurd (omega arith);
       layouts = refl;
+      tags = refl;
+      members = refl;
       entry_types = (refl, tt);
       parameter_types = ((refl, tt), tt);
       result_types = (inr refl, tt);
@@ -52,6 +54,13 @@ no_members h = refuted h.layouts
 
 holds_itself : IsScope [] (core (record { tag = []; members = declared (type.Struct 0) ∷ [] } ∷ []) []) → ⊥
 holds_itself h = refuted h.layouts
+
+-- two structs of one tag, and two members of one name
+one_tag_twice : IsScope [] (core (cons ∷ cons ∷ []) []) → ⊥
+one_tag_twice h = refuted h.tags
+
+one_member_twice : IsScope [] (core (record { tag = []; members = declared int ∷ declared int ∷ [] } ∷ []) []) → ⊥
+one_member_twice h = refuted h.members
 
 -- types that break the rules
 empty_array : IsScope (entry 120 (array_of int 0) ∷ []) (core [] []) → ⊥

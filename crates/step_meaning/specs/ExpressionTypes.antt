@@ -131,7 +131,7 @@ difference_type layouts unit (Some (type.Pointer' p (more_of-CType t end_of-CTyp
     where_true (not (is_void t) && (unit == cells layouts t && has_this_type (type.Pointer' p (more_of-CType t end_of-CType)) b)) (type.Int kind.Long)
 difference_type layouts unit _ b = None
 
--- `!`, `&&` and `||` take integers and pointers and give an `int` (C11 6.5.3.3, 6.5.13, 6.5.14)
+-- what gives an `int`: `!`, `&&` and `||`, which take integers and pointers (C11 6.5.3.3, 6.5.13, 6.5.14), comparisons, and `putchar`
 abbrev pub logical_type : Bool → Option CType
 logical_type b = where_true b (type.Int kind.Int)
 

@@ -246,10 +246,10 @@ pub record Fit (q : Core) (h : Hooks) : Type 0 where
 
 -- ---- several hooks that are woven together
 
--- the ghosts of file scope are numbered one after another
+-- the ghosts of file scope are numbered one after another; hooks that have none may give any number as their first
 abbrev pub AreNumberedFrom : ℕ → List Hooks → Type 0
 AreNumberedFrom n [] = Unit {0}
-AreNumberedFrom n (h ∷ hs) = (h.first ≡ n) × AreNumberedFrom (n + length h.globals) hs
+AreNumberedFrom n (h ∷ hs) = (1 ≤ length h.globals → h.first ≡ n) × AreNumberedFrom (n + length h.globals) hs
 
 pub record FitTogether (q : Core) (hs : List Hooks) : Type 0 where
   pub each : AllByRecursion (Fit q) hs

@@ -16,8 +16,11 @@ pub record FoldSimulates (source : Core) (hs : List Hooks) (woven : Core) : Type
   -- the Safe verdicts of a monitor before the n-th step are all true exactly where those of the fold are
   pub judged : (input : List ℕ) (k n : ℕ) (h : Hooks) → Contains hs h → n ≤ length (steps (run source input k))
       → AreSafe h.monitor (verdicts_before n (items (run woven input k))) ↔ AreSafe h.monitor (verdicts_before n (fold source h (steps (run source input k))))
-  -- at the exit the Accept verdicts of a monitor are those of the fold
-  pub accepted : (input : List ℕ) (k : ℕ) (v : ℤ) (h : Hooks) → Contains hs h → end (run woven input k) ≡ Exit v
+  -- the Accept verdicts of a monitor before the n-th step are those of the fold, also in a run that doesn't exit
+  pub accepted : (input : List ℕ) (k n : ℕ) (h : Hooks) → Contains hs h → n ≤ length (steps (run source input k))
+      → accept_verdicts h.monitor (verdicts_before n (items (run woven input k))) ≡ accept_verdicts h.monitor (verdicts_before n (fold source h (steps (run source input k))))
+  -- at the exit they are those of the whole fold
+  pub accepted_at_exit : (input : List ℕ) (k : ℕ) (v : ℤ) (h : Hooks) → Contains hs h → end (run woven input k) ≡ Exit v
       → accept_verdicts h.monitor (verdicts (items (run woven input k))) ≡ accept_verdicts h.monitor (verdicts (fold source h (steps (run source input k))))
   -- each verdict is of the monitor of one of the hooks
   pub theirs : (input : List ℕ) (k : ℕ) → AllByRecursion (λ v. (h : Hooks) × Contains hs h × (v.monitor ≡ h.monitor)) (verdicts (items (run woven input k)))

@@ -1,5 +1,5 @@
 -- Rules on types (C11 6.2.5, 6.7.2.1, 6.7.6.1, 6.7.6.2), with the limit of 65,536 cells on an array and on a struct.
--- A type is read where the structs with numbers below `complete` are complete, and those with numbers below `declared` may stand behind a pointer. In the definition of a struct the second has that struct besides.
+-- A type is judged where the structs of `layouts` are complete, and those with numbers below `declared` may stand behind a pointer: in the definition of a struct, that struct besides.
 use Rattle.std.specs.Prelude.{ℕ, zero, suc, ◌-◌, Bool, true, false, ◌&&◌, nat_lt, nat_le, if◌then◌else◌, List, [], ◌∷◌, ◌++◌, length, sum_by, Option, Some, None}
 use Rattle.std.specs.List.{list_all}
 use Rattle.step_meaning.specs.declared.value.CType.{CType, end_of-CType, more_of-CType}
