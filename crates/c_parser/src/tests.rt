@@ -174,20 +174,32 @@ const BODIES: [(&str, &str); 64] = [
     ("for (a, b;;) ;", "1:24"),
 ];
 
-#[test]
-fn refuses_at_the_first_token_that_it_cannot_use(rt: HostRuntime) -> Result<(), Fail> {
-    for (text, expected) in ITEMS {
-        let found = shown(&rt, text, Mode::Source)?;
-        if found.as_str() != expected {
-            return Err(Fail::from(format!(in rt.alloc(); "{text}: {found}, and not {expected}")?));
-        }
+/// Fails where the text isn't read or refused as expected.
+fn expect_shown(rt: &HostRuntime, text: &str, mode: Mode, expected: &str) -> Result<(), Fail> {
+    let found = shown(rt, text, mode)?;
+    if found.as_str() != expected {
+        return Err(Fail::from(format!(in rt.alloc(); "{text}: {found}, and not {expected}")?));
     }
+    Ok(())
+}
+
+#[test]
+fn refuses_items_at_the_first_token_that_it_cannot_use(rt: HostRuntime) -> Result<(), Fail> {
+    for (text, expected) in ITEMS {
+        expect_shown(&rt, text, Mode::Source, expected)?;
+    }
+    Ok(())
+}
+
+fn expect_body_shown(rt: &HostRuntime, body: &str, expected: &str) -> Result<(), Fail> {
+    let text = format!(in rt.alloc(); "int main(void) {{ {body} }}")?;
+    expect_shown(rt, &text, Mode::Source, expected)
+}
+
+#[test]
+fn refuses_statements_at_the_first_token_that_it_cannot_use(rt: HostRuntime) -> Result<(), Fail> {
     for (body, expected) in BODIES {
-        let text = format!(in rt.alloc(); "int main(void) {{ {body} }}")?;
-        let found = shown(&rt, &text, Mode::Source)?;
-        if found.as_str() != expected {
-            return Err(Fail::from(format!(in rt.alloc(); "{body}: {found}, and not {expected}")?));
-        }
+        expect_body_shown(&rt, body, expected)?;
     }
     Ok(())
 }
@@ -217,17 +229,23 @@ const WOVEN: [(&str, &str); 12] = [
 #[test]
 fn reads_woven_texts(rt: HostRuntime) -> Result<(), Fail> {
     for (text, expected) in WOVEN {
-        let found = shown(&rt, text, Mode::Woven)?;
-        if found.as_str() != expected {
-            return Err(Fail::from(format!(in rt.alloc(); "{text}: {found}, and not {expected}")?));
-        }
+        expect_shown(&rt, text, Mode::Woven, expected)?;
     }
     Ok(())
 }
 
 /// A text that nests: what stands before, what is repeated, what stands inside, what is repeated after that, and what
 /// stands behind; and how many fewer of them than the limit may stand there.
-const NESTS: [(&str, &str, &str, &str, &str, usize); 22] = [
+type Nest = (
+    &'static str,
+    &'static str,
+    &'static str,
+    &'static str,
+    &'static str,
+    usize,
+);
+
+const NESTS: [Nest; 22] = [
     ("int main(void) { return ", "(", "0", ")", "; }", 1),
     ("int main(void) { return ", "- ", "0", "", "; }", 1),
     ("int main(void) { return ", "(int) ", "0", "", "; }", 1),
@@ -252,11 +270,7 @@ const NESTS: [(&str, &str, &str, &str, &str, usize); 22] = [
     ("int f(int ", "[1]", "", "", ");", 1),
 ];
 
-fn repeated(
-    rt: &HostRuntime,
-    row: (&str, &str, &str, &str, &str, usize),
-    times: usize,
-) -> Result<String, Fail> {
+fn repeated(rt: &HostRuntime, row: Nest, times: usize) -> Result<String, Fail> {
     let (before, opening, inside, closing, behind, _) = row;
     let mut text = String::new(rt.alloc());
     text.push_str(before)?;
@@ -271,18 +285,22 @@ fn repeated(
     Ok(text)
 }
 
+fn expect_nested(rt: &HostRuntime, row: Nest, mode: Mode, limit: usize) -> Result<(), Fail> {
+    let most = limit.saturating_sub(row.5);
+    let found = shown(rt, &repeated(rt, row, most)?, mode)?;
+    if found.as_str() != "ok" {
+        return Err(Fail::from(format!(in rt.alloc(); "{most} times: {found}")?));
+    }
+    let found = shown(rt, &repeated(rt, row, most.saturating_add(1))?, mode)?;
+    if found.as_str() == "ok" {
+        return Err(Fail::from(format!(in rt.alloc(); "one more than {most} times")?));
+    }
+    Ok(())
+}
+
 fn nests_up_to(rt: &HostRuntime, mode: Mode, limit: usize) -> Result<(), Fail> {
     for row in NESTS {
-        let most = limit.saturating_sub(row.5);
-        let opening = row.1;
-        let found = shown(rt, &repeated(rt, row, most)?, mode)?;
-        if found.as_str() != "ok" {
-            return Err(Fail::from(format!(in rt.alloc(); "{most} times {opening}: {found}")?));
-        }
-        let found = shown(rt, &repeated(rt, row, most.saturating_add(1))?, mode)?;
-        if found.as_str() == "ok" {
-            return Err(Fail::from(format!(in rt.alloc(); "{most} and one times {opening}")?));
-        }
+        expect_nested(rt, row, mode, limit)?;
     }
     Ok(())
 }
@@ -328,25 +346,26 @@ const TOO_DEEP: [(&str, &str, &str, &str, &str, usize, &str); 15] = [
     ("int f(int ", "*", "[]", "", ");", 64, "1:75"),
 ];
 
+fn expect_repeated(
+    rt: &HostRuntime,
+    row: Nest,
+    times: usize,
+    mode: Mode,
+    expected: &str,
+) -> Result<(), Fail> {
+    let text = repeated(rt, row, times)?;
+    expect_shown(rt, &text, mode, expected)
+}
+
 #[test]
 fn refuses_what_nests_too_deep(rt: HostRuntime) -> Result<(), Fail> {
     for (before, opening, inside, closing, behind, times, expected) in TOO_DEEP {
-        let text = repeated(&rt, (before, opening, inside, closing, behind, 0), times)?;
-        let found = shown(&rt, &text, Mode::Source)?;
-        if found.as_str() != expected {
-            return Err(Fail::from(format!(in rt.alloc();
-                "{times} times {opening}: {found}, and not {expected}"
-            )?));
-        }
+        let row = (before, opening, inside, closing, behind, 0);
+        expect_repeated(&rt, row, times, Mode::Source, expected)?;
     }
     // A woven text bears more, and not that many.
-    let text = repeated(
-        &rt,
-        ("int main(void) { return ", "(", "0", ")", "; }", 0),
-        200_000,
-    )?;
-    assert_eq!(rt; shown(&rt, &text, Mode::Woven)?.as_str(), "1:1048");
-    Ok(())
+    let row = ("int main(void) { return ", "(", "0", ")", "; }", 0);
+    expect_repeated(&rt, row, 200_000, Mode::Woven, "1:1048")
 }
 
 /// Whether `a - b * c / d - e` is grouped from the left: three operands, of which the second has three factors.
