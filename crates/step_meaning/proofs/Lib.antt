@@ -16,6 +16,7 @@ pub mod NormalExamples
 mod Ranges
 mod OperatorRanges
 mod TypedMemory
+mod StepsFit
 mod Kept
 mod TypedAccesses
 mod TypedOperators
