@@ -34,3 +34,5 @@ mod TypedSizes
 pub mod TypedRuns
 pub mod TracedSights
 pub mod ScopeExamples
+mod Nesting
+mod NestingRuns
