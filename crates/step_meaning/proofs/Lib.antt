@@ -36,3 +36,4 @@ pub mod TracedSights
 pub mod ScopeExamples
 mod Nesting
 mod NestingRuns
+mod NestingLists
