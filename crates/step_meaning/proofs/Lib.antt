@@ -37,3 +37,4 @@ pub mod ScopeExamples
 mod Nesting
 mod NestingRuns
 mod NestingLists
+pub mod TracedRuns

@@ -1,5 +1,5 @@
 -- What steps that nest have in common: each activation has one function, one Enter, which is its first step, and at most one Return, which is its last.
-use Rattle.std.proofs.Common.{◌≡◌, ◌==◌, ℕ, zero, suc, ◌≤◌, ◌<◌, Bool, true, false, List, [], ◌∷◌, length, map, drop, Option, Some, None, refl, sym, ap, subst, ◌∙◌, inl, inr, arith}
+use Rattle.std.proofs.Common.{◌≡◌, ℕ, zero, suc, ◌≤◌, ◌<◌, List, [], ◌∷◌, length, drop, Option, Some, None, refl, sym, ap, subst, inl, inr, arith}
 use Rattle.std.specs.Prelude.{◌⊎◌, IsTrue}
 use Rattle.step_meaning.specs.declared.value.Action.{Action}
 use Rattle.step_meaning.specs.declared.value.Action.TheVariants as act
@@ -268,11 +268,11 @@ nested_known q hs n [] d h = (none_known hs n, none_ordered)
 nested_known q hs n (s ∷ ss) d h =
     by_sort q hs n s h.0 (λ before after made. Descends before n → Nest q after made ss → Known before n (s ∷ ss) × Ordered (s ∷ ss))
     (λ enter no_return number first d k. let r = nested_known q (maker s ∷ hs) (suc n) ss (descends_in hs n (maker s) number d) k in
-        (enter_known s ss hs n d enter number r.0 first, ordered_cons s ss (after_enter s ss hs n d enter number r.0 no_return) r.1))
+    (enter_known s ss hs n d enter number r.0 first, ordered_cons s ss (after_enter s ss hs n d enter number r.0 no_return) r.1))
     (λ no_enter no_return outer d k. let r = nested_known q (maker s ∷ outer) n ss d k in
-        (inner_known s ss outer n d no_enter r.0, ordered_cons s ss (after_inner s ss outer n d no_enter no_return r.0) r.1))
+    (inner_known s ss outer n d no_enter r.0, ordered_cons s ss (after_inner s ss outer n d no_enter no_return r.0) r.1))
     (λ no_enter outer d k. let r = nested_known q outer n ss (descends_out (maker s) outer n d) k in
-        (return_known s ss outer n d no_enter r.0, ordered_cons s ss (after_return s ss outer n d no_enter r.0) r.1))
+    (return_known s ss outer n d no_enter r.0, ordered_cons s ss (after_return s ss outer n d no_enter r.0) r.1))
     d h.1
 
 -- the first step of a run is one of activation 0

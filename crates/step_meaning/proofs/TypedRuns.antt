@@ -39,7 +39,7 @@ use Rattle.step_meaning.proofs.Kept.{EndsWell, CallGivesFit, CallKeeps}
 
 -- ---- calls
 
-some_fits : {A : Type 0} (P : A → Type 0) (o : Option A) (a : A) → o ≡ Some a → WhereSome P o → P a
+pub some_fits : {A : Type 0} (P : A → Type 0) (o : Option A) (a : A) → o ≡ Some a → WhereSome P o → P a
 some_fits P o a e h = subst (WhereSome P) e h
 
 int_returned : (t : CType) → same_type t int ≡ true → ReturnFits t (Some (value.Int (pos 0)))
@@ -194,8 +194,11 @@ module _ (q : Core) (h : IsWellFormed q) (input : List ℕ) (k : ℕ) where
 
       by : (o : Option Function) → slice_get q.functions q.start ≡ o → is_main o ≡ true → (fn : Function) × (same_type fn.result int ≡ true) × CallGivesFit q [] (OfType fn.result) (ca.calls direct q k k q.start [] (start_world (start_state q input)))
       by None e m = false_is_not_true m
-      by (Some fn) e m = (fn, left_of_and _ _ (right_of_and _ _ (left_of_and _ _ m)),
-          (keeps_calls q h k k [] q.start fn e (number_same q.start) (right_of_and _ _ m) [] (no_parameters fn (left_of_and _ _ (right_of_and _ _ (right_of_and _ _ (left_of_and _ _ m)))))).by (start_world (start_state q input)) (start_fits q h, tt))
+      by (Some fn) e m = (
+        fn,
+        left_of_and _ _ (right_of_and _ _ (left_of_and _ _ m)),
+        (keeps_calls q h k k [] q.start fn e (number_same q.start) (right_of_and _ _ m) [] (no_parameters fn (left_of_and _ _ (right_of_and _ _ (right_of_and _ _ (left_of_and _ _ m)))))).by (start_world (start_state q input)) (start_fits q h, tt),
+      )
 
 pub well_formed_faults_halt : WellFormedFaultsHalt
 well_formed_faults_halt q h input k = let m = main_keeps q h input k in rw (run_logged q input k) (ran_well q [] m.0.result (ca.calls direct q k k q.start [] (start_world (start_state q input))) m.1 m.2)
