@@ -13,7 +13,7 @@ use Rattle.step_meaning.proofs.Nesting.{maker, numbers, open_at, open_after, mad
 
 -- ---- elements of a list
 
-same_some : {A : Type 0} (a b : A) → Some a ≡ Some b → a ≡ b
+pub same_some : {A : Type 0} (a b : A) → Some a ≡ Some b → a ≡ b
 same_some a b e = ap (λ o. held o a) e
   where
     held : {A : Type 0} → Option A → A → A

@@ -45,6 +45,7 @@ use Rattle.step_meaning.specs.Runs.{run, start_state, exit_of}
 use Rattle.step_meaning.specs.Ghosts.{ghosts_after}
 use Rattle.step_meaning.specs.Traced.{HasBody, IsFunctionOf}
 use Rattle.step_meaning.proofs.Ranges.{false_is_not_true}
+use Rattle.step_meaning.proofs.TypedMemory.{drop_map}
 use Rattle.step_meaning.proofs.Nesting.{numbers, frame_numbers, Nest}
 
 -- ---- changes of a memory keep its frames
@@ -347,11 +348,7 @@ module _ (q : Core) (hs : List Here) (n : ℕ) (here : Here) (call : ℕ → Lis
   after_leading _ s r e m = h s r e m
 
 dropped : (memory : Memory) (h : Here) (hs : List Here) → frame_numbers memory ≡ numbers (h ∷ hs) → frame_numbers (without_frame memory) ≡ numbers hs
-dropped memory h hs e = by memory.frames ∙ ap (λ ns. drop 1 ns) e
-  where
-    by : (fs : List Frame) → map (λ f. f.activation) (drop 1 fs) ≡ drop 1 (map (λ f. f.activation) fs)
-    by [] = refl
-    by (f ∷ fs) = refl
+dropped memory h hs e = drop_map (λ f. f.activation) memory.frames ∙ ap (λ ns. drop 1 ns) e
 
 module _ (q : Core) (bound : ℕ) where
   -- calls by this

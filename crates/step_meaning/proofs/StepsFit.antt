@@ -1,5 +1,5 @@
 -- What is true of each step of a run, as far as its memory and its action show it: cells hold values of their types, accesses are at addresses, and arguments and results have the function's types.
-use Rattle.std.proofs.Common.{◌≡◌, ◌==◌, ℕ, ◌<◌, ◌^◌, Bool, true, false, List, [], ◌∷◌, map, drop, Option, Some, None}
+use Rattle.std.proofs.Common.{◌≡◌, ◌==◌, ℕ, ◌<◌, ◌^◌, List, [], ◌∷◌, map, drop, Option, Some, None}
 use Rattle.std.specs.Prelude.{slice_get, IsTrue}
 use Rattle.step_meaning.specs.declared.value.CType.{CType}
 use Rattle.step_meaning.specs.declared.value.CType.TheVariants as type
@@ -13,7 +13,7 @@ use Rattle.step_meaning.specs.Memory.{Frame, empty_block}
 use Rattle.step_meaning.specs.Steps.{Step, Item, Made, Judged}
 use Rattle.step_meaning.specs.ExpressionTypes.{parameter_types}
 use Rattle.step_meaning.specs.Traced.{is_program_kind, cells_declared, HoldArguments}
-use Rattle.step_meaning.proofs.TypedMemory.{Each, InCell, BlockFits, FrameFits}
+use Rattle.step_meaning.proofs.TypedMemory.{Each, is_empty, InCell, BlockFits, FrameFits}
 
 -- ---- values
 
@@ -43,10 +43,6 @@ ReturnFits t (Some v) = InCell t v
 abbrev pub InnermostHolds : List Frame → List Value → Type 0
 InnermostHolds [] vs = ⊥
 InnermostHolds (r ∷ rs) vs = HoldArguments r.locals vs
-
-abbrev pub is_empty : {A : Type 0} → List A → Bool
-is_empty [] = true
-is_empty (x ∷ xs) = false
 
 pub record EnterFits (q : Core) (frames : List Frame) (g : ℕ) (vs : List Value) : Type 0 where
   pub function : Function

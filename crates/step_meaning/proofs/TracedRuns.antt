@@ -21,12 +21,12 @@ use Rattle.step_meaning.specs.ExpressionTypes.{parameter_types}
 use Rattle.step_meaning.specs.Traced.{PointsIntoProgram, IsPointer, HaveTypes, SlotTyped, BlocksTyped, NamesOwn, PointsOnlyIntoProgram, AccessesPointer, IsFunctionOf, ResultHasType, ActionHasTypes, ParametersHold, IsStepOf, At, IsTraced}
 use Rattle.step_meaning.specs.TracedRuns.{WellFormedTraced}
 use Rattle.step_meaning.proofs.Ranges.{false_is_not_true}
-use Rattle.step_meaning.proofs.TypedMemory.{Each, get_fits, number_same, BlockFits, FrameFits}
-use Rattle.step_meaning.proofs.StepsFit.{IsAddress, InCells, ReturnFits, is_empty, ActionFits, StepFits}
+use Rattle.step_meaning.proofs.TypedMemory.{Each, get_fits, is_empty, is_empty_map, drop_map, number_same, BlockFits, FrameFits}
+use Rattle.step_meaning.proofs.StepsFit.{IsAddress, InCells, ReturnFits, ActionFits, StepFits}
 use Rattle.step_meaning.proofs.TypedRuns.{some_fits, run_steps_fit}
 use Rattle.step_meaning.proofs.Nesting.{maker, numbers, frame_numbers, open_at, IsNext, Nest}
 use Rattle.step_meaning.proofs.NestingRuns.{run_nests}
-use Rattle.step_meaning.proofs.NestingLists.{Falls, falls_more, Descends, by_sort, descends_in, descends_out, nested_known, first_number}
+use Rattle.step_meaning.proofs.NestingLists.{same_some, Falls, falls_more, Descends, by_sort, descends_in, descends_out, nested_known, first_number}
 
 -- ---- memories
 
@@ -84,17 +84,9 @@ all_placed q hs n (s ∷ ss) d h = (
 abbrev IsMain : Core → Here → Type 0
 IsMain q h = (h.function == q.start) ≡ (h.activation == 0)
 
-empty_map : {A B : Type 0} (f : A → B) (xs : List A) → is_empty (map f xs) ≡ is_empty xs
-empty_map f [] = refl
-empty_map f (x ∷ xs) = refl
-
-dropped_map : {A B : Type 0} (f : A → B) (xs : List A) → map f (drop 1 xs) ≡ drop 1 (map f xs)
-dropped_map f [] = refl
-dropped_map f (x ∷ xs) = refl
-
 -- where an Enter has one frame, no activation is open before it
 one_frame : (fs : List Frame) (h : Here) (hs : List Here) → map (λ f. f.activation) fs ≡ numbers (h ∷ hs) → is_empty (drop 1 fs) ≡ is_empty hs
-one_frame fs h hs e = sym (empty_map (λ f. f.activation) (drop 1 fs)) ∙ (ap is_empty (dropped_map (λ f. f.activation) fs ∙ ap (λ ns. drop 1 ns) e) ∙ empty_map (λ h. h.activation) hs)
+one_frame fs h hs e = sym (is_empty_map (λ f. f.activation) (drop 1 fs)) ∙ (ap is_empty (drop_map (λ f. f.activation) fs ∙ ap (λ ns. drop 1 ns) e) ∙ is_empty_map (λ h. h.activation) hs)
 
 none_made : (hs : List Here) (n : ℕ) → Descends hs n → (hs ≡ [] → n ≡ 0) → is_empty hs ≡ (n == 0)
 none_made [] n d first = subst (λ n. true ≡ (n == 0)) (sym (first refl)) refl
@@ -176,13 +168,6 @@ accesses_pointer q frames _ h = tt
 
 one_function : (q : Core) (g k : ℕ) (f h : Function) → slice_get q.functions g ≡ Some f → slice_get q.functions k ≡ Some h → g ≡ k → f ≡ h
 one_function q g k f h a b e = same_some f h (sym a ∙ (ap (slice_get q.functions) e ∙ b))
-  where
-    held : {A : Type 0} → Option A → A → A
-    held None x = x
-    held (Some y) x = y
-
-    same_some : (f h : Function) → Some f ≡ Some h → f ≡ h
-    same_some f h e = ap (λ o. held o f) e
 
 has_types : (q : Core) (frames : List Frame) (g : ℕ) (f : Function) → slice_get q.functions g ≡ Some f → (a : Action) → NamesOwn a g → ActionFits q frames a → ActionHasTypes f a
 has_types q frames g f found (act.Enter k vs) o h = subst (λ f. HaveTypes (parameter_types f) vs) (one_function q k g h.function f h.found found o) (arguments_typed (parameter_types h.function) vs h.arguments)

@@ -31,8 +31,8 @@ use Rattle.step_meaning.specs.StatementRules.{BodyFits}
 use Rattle.step_meaning.specs.WellFormed.{IsWellFormedFunction}
 use Rattle.step_meaning.specs.Traced.{SlotTyped, HoldArguments}
 use Rattle.step_meaning.proofs.Ranges.{false_is_not_true, left_of_and, right_of_and}
-use Rattle.step_meaning.proofs.TypedMemory.{Each, WhereSome, InCell, BlockFits, FrameFits, Shape, shape_of, MemoryFits}
-use Rattle.step_meaning.proofs.StepsFit.{InCells, ReturnFits, is_empty, EnterFits, global_cells}
+use Rattle.step_meaning.proofs.TypedMemory.{Each, WhereSome, is_empty, is_empty_map, drop_map, InCell, BlockFits, FrameFits, Shape, shape_of, MemoryFits}
+use Rattle.step_meaning.proofs.StepsFit.{InCells, ReturnFits, EnterFits, global_cells}
 use Rattle.step_meaning.proofs.TypedOperators.{OfType}
 use Rattle.step_meaning.proofs.TypedStatements.{CompletionFits, keeps_exec_all}
 use Rattle.step_meaning.proofs.Kept.{RegistersFit, Fits, CallGivesFit, CallKeeps, GivesFit, Keeps, step_fits, keeps_pure, keeps_halt, keeps_emit}
@@ -51,12 +51,8 @@ closes_bind {q = q} {inner = inner} {frames = frames} {registers = registers} {A
     on (Stuck e l) g = g
 
 tail_fits : (globals : List (List CType)) (s : Shape) (frames : List Shape) (memory : Memory) → MemoryFits globals (s ∷ frames) memory → MemoryFits globals frames (record memory { frames = drop 1 memory.frames })
-tail_fits globals s frames memory h = record { globals_declared = h.globals_declared; frames_declared = dropped memory.frames ∙ ap (λ ss. drop 1 ss) h.frames_declared; globals_fit = h.globals_fit; locals_fit = rest memory.frames h.locals_fit }
+tail_fits globals s frames memory h = record { globals_declared = h.globals_declared; frames_declared = drop_map shape_of memory.frames ∙ ap (λ ss. drop 1 ss) h.frames_declared; globals_fit = h.globals_fit; locals_fit = rest memory.frames h.locals_fit }
   where
-    dropped : (fs : List Frame) → map shape_of (drop 1 fs) ≡ drop 1 (map shape_of fs)
-    dropped [] = refl
-    dropped (f ∷ fs) = refl
-
     rest : (fs : List Frame) → Each FrameFits fs → Each FrameFits (drop 1 fs)
     rest [] h = tt
     rest (f ∷ fs) h = h.1
@@ -180,10 +176,6 @@ module _ {q : Core} {frames : List Shape} {registers : List CType} (here : Here)
 
 -- ---- activations
 
-is_empty_map : (fs : List Frame) → is_empty (map shape_of fs) ≡ is_empty fs
-is_empty_map [] = refl
-is_empty_map (f ∷ fs) = refl
-
 module _ (q : Core) (frames outer : List Shape) (registers : List CType) (here : Here) (call : ℕ → List Value → DirectCall) (bound : ℕ) (memory : Memory) (P : Value → Type 0) (f : Completion → Direct Value) (h : (w : World) (r : Registers) → w.memory ≡ memory → Fits q frames w → RegistersFit registers r → GivesFit q outer registers P (f Next w r)) where
   -- the annotations that begin a body make no step and change no variable of the program
   after_leading : (ss : List Stmt) (w : World) (r : Registers) → w.memory ≡ memory → Fits q frames w → RegistersFit registers r → GivesFit q outer registers P (onward (sm.exec_all direct q.layouts call here bound (annotations ss) w r) f)
@@ -243,7 +235,7 @@ module _ (q : Core) (bound : ℕ) (sizes : SizesFit q.layouts) where
           begun_fits = record { globals_declared = m.0.globals_declared; frames_declared = ap (λ ss. own ∷ ss) m.0.frames_declared; globals_fit = m.0.globals_fit; locals_fit = (arguments_fit q.layouts sizes fn.locals fn.params vs h.locals h.parameters arguments, m.0.locals_fit) }
 
           begun_alone : (g == q.start) ≡ is_empty w.memory.frames
-          begun_alone = alone ∙ (sym (ap is_empty m.0.frames_declared) ∙ is_empty_map w.memory.frames)
+          begun_alone = alone ∙ (sym (ap is_empty m.0.frames_declared) ∙ is_empty_map shape_of w.memory.frames)
 
           enters : EnterFits q begun.frames g vs
           enters = record { function = fn; found = found; arguments = arguments; hold = arguments_hold q.layouts fn.locals fn.params vs h.parameters arguments; main_alone = begun_alone }
