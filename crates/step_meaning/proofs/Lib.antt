@@ -16,6 +16,7 @@ pub mod NormalExamples
 mod Ranges
 mod OperatorRanges
 mod TypedMemory
+mod StepsFit
 mod Kept
 mod TypedAccesses
 mod TypedOperators
@@ -33,3 +34,7 @@ mod TypedSizes
 pub mod TypedRuns
 pub mod TracedSights
 pub mod ScopeExamples
+mod Nesting
+mod NestingRuns
+mod NestingLists
+pub mod TracedRuns

@@ -1,15 +1,16 @@
 -- Calls keep types: a call of a function with a body, with arguments of its types, gives a value of its type and leaves the frames as they were.
-use Rattle.std.proofs.Common.{◌≡◌, ℕ, zero, suc, ◌<◌, ◌^◌, Bool, true, false, List, [], ◌∷◌, length, map, take, drop, Option, Some, None, refl, ap, ◌∙◌, arith}
+use Rattle.std.proofs.Common.{◌≡◌, ℕ, zero, suc, ◌<◌, ◌^◌, Bool, true, false, List, [], ◌∷◌, length, map, take, drop, Option, Some, None, refl, sym, ap, subst, ◌∙◌, arith}
 use Rattle.std.specs.Prelude.{◌==◌, pos, slice_get, option_map}
 use Rattle.std.specs.List.{list_all}
 use Rattle.step_meaning.specs.declared.value.CType.{CType}
 use Rattle.step_meaning.specs.declared.value.CType.TheVariants as type
 use Rattle.step_meaning.specs.declared.value.Value.{Value}
 use Rattle.step_meaning.specs.declared.value.Value.TheVariants as value
-use Rattle.step_meaning.specs.declared.value.Cell.TheVariants.{Nothing}
+use Rattle.step_meaning.specs.declared.value.Cell.TheVariants.{Nothing, Holds}
 use Rattle.step_meaning.specs.declared.value.Action.TheVariants as act
 use Rattle.step_meaning.specs.declared.value.RunFault.TheVariants as fault
 use Rattle.step_meaning.specs.declared.stmt.Stmt.{Stmt}
+use Rattle.step_meaning.specs.declared.stmt.Stmt.TheVariants as st
 use Rattle.step_meaning.specs.declared.program.Declared.{Declared}
 use Rattle.step_meaning.specs.declared.program.Layout.{Layout}
 use Rattle.step_meaning.specs.declared.program.Function.{Function}
@@ -17,50 +18,47 @@ use Rattle.step_meaning.specs.declared.program.Core.{Core}
 use Rattle.step_meaning.specs.Types.{object_cells}
 use Rattle.step_meaning.specs.Memory.{Memory, Frame, Slot, empty_block, filled}
 use Rattle.step_meaning.specs.State.{Here, Registers, unset_registers}
-use Rattle.step_meaning.specs.Flow.{direct, Direct, DirectCall, World, Gives, Done, Over, Stuck, onward, as_call}
+use Rattle.step_meaning.specs.Ghosts.{ghosts_after, assertion_holds}
+use Rattle.step_meaning.specs.Flow.{step_by, verdict_of, direct, Direct, DirectCall, World, Gives, Done, Over, Stuck, onward, as_call}
 use Rattle.step_meaning.specs.Statements as sm
 use Rattle.step_meaning.specs.Statements.{Completion, Next, Broken, Continued, Returned}
 use Rattle.step_meaning.specs.Calls as ca
-use Rattle.step_meaning.specs.Calls.{annotations, after_annotations, with_arguments, first_frame, value_or_zero}
-use Rattle.step_meaning.specs.Settings.{setting_of, leading_setting}
+use Rattle.step_meaning.specs.Calls.{annotations, after_annotations, with_arguments, first_frame, with_frame, value_or_zero}
+use Rattle.step_meaning.specs.Settings.{setting_of}
 use Rattle.step_meaning.specs.TypeRules.{is_scalar, is_scalar_type, keeps_rules}
 use Rattle.step_meaning.specs.ExpressionTypes.{parameter_types, called}
 use Rattle.step_meaning.specs.StatementRules.{BodyFits}
 use Rattle.step_meaning.specs.WellFormed.{IsWellFormedFunction}
-use Rattle.step_meaning.specs.Traced.{SlotTyped}
+use Rattle.step_meaning.specs.Traced.{SlotTyped, HoldArguments}
 use Rattle.step_meaning.proofs.Ranges.{false_is_not_true, left_of_and, right_of_and}
-use Rattle.step_meaning.proofs.TypedMemory.{Each, WhereSome, InCell, BlockFits, FrameFits, Shape, shape_of, MemoryFits}
+use Rattle.step_meaning.proofs.TypedMemory.{Each, WhereSome, is_empty, is_empty_map, drop_map, InCell, BlockFits, FrameFits, Shape, shape_of, MemoryFits}
+use Rattle.step_meaning.proofs.StepsFit.{InCells, ReturnFits, EnterFits, global_cells}
 use Rattle.step_meaning.proofs.TypedOperators.{OfType}
-use Rattle.step_meaning.proofs.TypedExpressions.{InCells}
-use Rattle.step_meaning.proofs.TypedStatements.{ReturnFits, CompletionFits, keeps_exec_all}
-use Rattle.step_meaning.proofs.Kept.{RegistersFit, CallGivesFit, CallKeeps, GivesFit, Keeps, keeps_pure, keeps_halt, keeps_emit}
+use Rattle.step_meaning.proofs.TypedStatements.{CompletionFits, keeps_exec_all}
+use Rattle.step_meaning.proofs.Kept.{RegistersFit, Fits, CallGivesFit, CallKeeps, GivesFit, Keeps, step_fits, keeps_pure, keeps_halt, keeps_emit}
 
 -- ---- a part of a run that closes the innermost frame
 
-pub record Closes (globals : List (List CType)) (inner frames : List Shape) (registers : List CType) {A : Type 0} (P : A → Type 0) (d : Direct A) : Type 0 where
-  pub by : (w : World) (r : Registers) → MemoryFits globals inner w.memory → RegistersFit registers r → GivesFit globals frames registers P (d w r)
+pub record Closes (q : Core) (inner frames : List Shape) (registers : List CType) {A : Type 0} (P : A → Type 0) (d : Direct A) : Type 0 where
+  pub by : (w : World) (r : Registers) → Fits q inner w → RegistersFit registers r → GivesFit q frames registers P (d w r)
 
-closes_bind : {globals : List (List CType)} {inner frames : List Shape} {registers : List CType} {A B : Type 0} {P : A → Type 0} {Q : B → Type 0} {d : Direct A} {f : A → Direct B} → Keeps globals inner registers P d → ((a : A) → P a → Closes globals inner frames registers Q (f a)) → Closes globals inner frames registers Q (direct.bind d f)
-closes_bind {globals = globals} {inner = inner} {frames = frames} {registers = registers} {A = A} {P = P} {Q = Q} {d = d} {f = f} h k = record { by = λ w r m l. on (d w r) (h.by w r m l) }
+closes_bind : {q : Core} {inner frames : List Shape} {registers : List CType} {A B : Type 0} {P : A → Type 0} {Q : B → Type 0} {d : Direct A} {f : A → Direct B} → Keeps q inner registers P d → ((a : A) → P a → Closes q inner frames registers Q (f a)) → Closes q inner frames registers Q (direct.bind d f)
+closes_bind {q = q} {inner = inner} {frames = frames} {registers = registers} {A = A} {P = P} {Q = Q} {d = d} {f = f} h k = record { by = λ w r m l. on (d w r) (h.by w r m l) }
   where
-    on : (o : Gives A) → GivesFit globals inner registers P o → GivesFit globals frames registers Q (onward o f)
+    on : (o : Gives A) → GivesFit q inner registers P o → GivesFit q frames registers Q (onward o f)
     on (Done a w r) g = (k a g.0).by w r g.1 g.2
     on (Over e l) g = g
     on (Stuck e l) g = g
 
 tail_fits : (globals : List (List CType)) (s : Shape) (frames : List Shape) (memory : Memory) → MemoryFits globals (s ∷ frames) memory → MemoryFits globals frames (record memory { frames = drop 1 memory.frames })
-tail_fits globals s frames memory h = record { globals_declared = h.globals_declared; frames_declared = dropped memory.frames ∙ ap (λ ss. drop 1 ss) h.frames_declared; globals_fit = h.globals_fit; locals_fit = rest memory.frames h.locals_fit }
+tail_fits globals s frames memory h = record { globals_declared = h.globals_declared; frames_declared = drop_map shape_of memory.frames ∙ ap (λ ss. drop 1 ss) h.frames_declared; globals_fit = h.globals_fit; locals_fit = rest memory.frames h.locals_fit }
   where
-    dropped : (fs : List Frame) → map shape_of (drop 1 fs) ≡ drop 1 (map shape_of fs)
-    dropped [] = refl
-    dropped (f ∷ fs) = refl
-
     rest : (fs : List Frame) → Each FrameFits fs → Each FrameFits (drop 1 fs)
     rest [] h = tt
     rest (f ∷ fs) h = h.1
 
-closes_frame : (globals : List (List CType)) (s : Shape) (frames : List Shape) (registers : List CType) (P : Value → Type 0) (v : Value) → P v → Closes globals (s ∷ frames) frames registers P (direct.bind (ca.close_frame direct) (λ u. direct.pure v))
-closes_frame globals s frames registers P v h = record { by = λ w r m k. (h, tail_fits globals s frames w.memory m, k) }
+closes_frame : (q : Core) (s : Shape) (frames : List Shape) (registers : List CType) (P : Value → Type 0) (v : Value) → P v → Closes q (s ∷ frames) frames registers P (direct.bind (ca.close_frame direct) (λ u. direct.pure v))
+closes_frame q s frames registers P v h = record { by = λ w r m k. (h, (tail_fits (global_cells q) s frames w.memory m.0, m.1), k) }
 
 -- ---- the variables of an activation
 
@@ -100,6 +98,24 @@ arguments_fit layouts sizes [] params (v ∷ vs) h k l = tt
 arguments_fit layouts sizes (d ∷ ds) zero (v ∷ vs) h k l = absurd l
 arguments_fit layouts sizes (d ∷ ds) (suc params) (v ∷ vs) h k l = (argument_fits layouts d v (left_of_and _ _ (left_of_and _ _ k)) l.0, arguments_fit layouts sizes ds params vs (right_of_and _ _ h) (right_of_and _ _ k) l.1)
 
+-- the parameters hold the arguments
+argument_holds : (layouts : List Layout) (d : Declared) (v : Value) → is_scalar d.ctype ≡ true → map (λ s. s.cell) (filled (empty_block layouts d) (v ∷ [])) ≡ (Holds v ∷ [])
+argument_holds layouts d v e = by d.ctype e
+  where
+    by : (t : CType) → is_scalar t ≡ true → map (λ s. s.cell) (filled (map (λ t. record { declared = t; cell = Nothing }) (object_cells layouts t)) (v ∷ [])) ≡ (Holds v ∷ [])
+    by (type.Int k) e = refl
+    by (type.Pointer' b t) e = refl
+    by type.Void e = false_is_not_true e
+    by (type.Array' b t n) e = false_is_not_true e
+    by (type.Struct n) e = false_is_not_true e
+
+arguments_hold : (layouts : List Layout) (ds : List Declared) (params : ℕ) (vs : List Value) → list_all (is_scalar_type layouts) (map (λ d. d.ctype) (take params ds)) ≡ true → InCells (map (λ d. d.ctype) (take params ds)) vs → HoldArguments (with_arguments (map (empty_block layouts) ds) vs) vs
+arguments_hold layouts ds params [] k l = tt
+arguments_hold layouts [] zero (v ∷ vs) k l = absurd l
+arguments_hold layouts [] (suc params) (v ∷ vs) k l = absurd l
+arguments_hold layouts (d ∷ ds) zero (v ∷ vs) k l = absurd l
+arguments_hold layouts (d ∷ ds) (suc params) (v ∷ vs) k l = (argument_holds layouts d v (left_of_and _ _ (left_of_and _ _ k)), arguments_hold layouts ds params vs (right_of_and _ _ k) l.1)
+
 -- ---- registers
 
 unset_fit : (ds : List Declared) → RegistersFit (map (λ d. d.ctype) ds) (unset_registers ds)
@@ -131,8 +147,8 @@ value_fits (type.Array' b t n) (Some v) h = h
 value_fits (type.Struct n) None h = absurd h
 value_fits (type.Struct n) (Some v) h = h
 
-module _ {globals : List (List CType)} {frames : List Shape} {registers : List CType} (here : Here) where
-  keeps_returned : (t : CType) (v : Option Value) → ReturnFits t v → Keeps globals frames registers (ReturnFits t) (ca.returned direct t v)
+module _ {q : Core} {frames : List Shape} {registers : List CType} (here : Here) where
+  keeps_returned : (t : CType) (v : Option Value) → ReturnFits t v → Keeps q frames registers (ReturnFits t) (ca.returned direct t v)
   keeps_returned type.Void None h = keeps_pure None tt
   keeps_returned type.Void (Some v) h = absurd h
   keeps_returned (type.Int k) None h = absurd h
@@ -144,7 +160,7 @@ module _ {globals : List (List CType)} {frames : List Shape} {registers : List C
   keeps_returned (type.Struct n) None h = absurd h
   keeps_returned (type.Struct n) (Some v) h = keeps_pure (Some v) h
 
-  keeps_fallen_off : (b : Bool) (t : CType) → (b ≡ true → ReturnFits t (Some (value.Int (pos 0)))) → Keeps globals frames registers (ReturnFits t) (ca.fallen_off direct here b t)
+  keeps_fallen_off : (b : Bool) (t : CType) → (b ≡ true → ReturnFits t (Some (value.Int (pos 0)))) → Keeps q frames registers (ReturnFits t) (ca.fallen_off direct here b t)
   keeps_fallen_off true t h = keeps_pure (Some (value.Int (pos 0))) (h refl)
   keeps_fallen_off false type.Void h = keeps_pure None tt
   keeps_fallen_off false (type.Int k) h = keeps_halt here fault.NoReturn
@@ -152,7 +168,7 @@ module _ {globals : List (List CType)} {frames : List Shape} {registers : List C
   keeps_fallen_off false (type.Array' b t n) h = keeps_halt here fault.NoReturn
   keeps_fallen_off false (type.Struct n) h = keeps_halt here fault.NoReturn
 
-  keeps_given_back : (b : Bool) (t : CType) (c : Completion) → (b ≡ true → ReturnFits t (Some (value.Int (pos 0)))) → CompletionFits t false c → Keeps globals frames registers (ReturnFits t) (ca.given_back direct here b t c)
+  keeps_given_back : (b : Bool) (t : CType) (c : Completion) → (b ≡ true → ReturnFits t (Some (value.Int (pos 0)))) → CompletionFits t false c → Keeps q frames registers (ReturnFits t) (ca.given_back direct here b t c)
   keeps_given_back b t (Returned v) h k = keeps_returned t v k
   keeps_given_back b t Next h k = keeps_fallen_off b t h
   keeps_given_back b t Broken h k = false_is_not_true k
@@ -160,40 +176,69 @@ module _ {globals : List (List CType)} {frames : List Shape} {registers : List C
 
 -- ---- activations
 
-module _ (q : Core) (globals : List (List CType)) (bound : ℕ) (sizes : SizesFit q.layouts) where
-  -- calls by this keep types
-  abbrev pub AllCallsKeep : (ℕ → List Value → DirectCall) → Type 0
-  AllCallsKeep call = (frames : List Shape) (g : ℕ) → WhereSome (λ fn. (vs : List Value) → InCells (parameter_types fn) vs → CallKeeps globals frames (OfType fn.result) (call g vs)) (called q g)
+module _ (q : Core) (frames outer : List Shape) (registers : List CType) (here : Here) (call : ℕ → List Value → DirectCall) (bound : ℕ) (memory : Memory) (P : Value → Type 0) (f : Completion → Direct Value) (h : (w : World) (r : Registers) → w.memory ≡ memory → Fits q frames w → RegistersFit registers r → GivesFit q outer registers P (f Next w r)) where
+  -- the annotations that begin a body make no step and change no variable of the program
+  after_leading : (ss : List Stmt) (w : World) (r : Registers) → w.memory ≡ memory → Fits q frames w → RegistersFit registers r → GivesFit q outer registers P (onward (sm.exec_all direct q.layouts call here bound (annotations ss) w r) f)
+  after_leading (st.Ghost g ∷ ss) w r e m l = after_leading ss (record w { ghosts = ghosts_after q.layouts here w.memory r g w.ghosts }) r e m l
+  after_leading (st.Assert v k p ∷ ss) w r e m l = after_leading ss (record w { log = verdict_of k v (assertion_holds q.layouts here w.memory r w.ghosts p) ∷ w.log }) r e (m.0, (tt, m.1)) l
+  after_leading _ w r e m l = h w r e m l
 
-  pub keeps_activation : (call : ℕ → List Value → DirectCall) → AllCallsKeep call → (frames : List Shape) (g : ℕ) (fn : Function) (body : List Stmt) (vs : List Value) → IsWellFormedFunction q fn → BodyFits q fn body → ((g == q.start) ≡ true → ReturnFits fn.result (Some (value.Int (pos 0)))) → InCells (parameter_types fn) vs → CallKeeps globals frames (OfType fn.result) (direct.alone (unset_registers fn.registers) (ca.activation direct q bound call g fn body vs))
-  keeps_activation call calls frames g fn body vs h fits main arguments = record { by = opened }
+module _ (q : Core) (bound : ℕ) (sizes : SizesFit q.layouts) where
+  short_locals : (ds : List Declared) → list_all (λ d. keeps_rules q.layouts d.ctype) ds ≡ true → (i : ℕ) → WhereSome (λ t. length (object_cells q.layouts t) < 2 ^ 32) (option_map (λ d. d.ctype) (slice_get ds i))
+  short_locals [] h i = tt
+  short_locals (d ∷ ds) h zero = sizes d.ctype (left_of_and _ _ h)
+  short_locals (d ∷ ds) h (suc i) = short_locals ds (right_of_and _ _ h) i
+
+  -- calls by this in an activation keep types
+  abbrev pub AllCallsKeep : (ℕ → List Value → DirectCall) → Type 0
+  AllCallsKeep call = (s : Shape) (frames : List Shape) (g : ℕ) → WhereSome (λ fn. (vs : List Value) → InCells (parameter_types fn) vs → CallKeeps q (s ∷ frames) (OfType fn.result) (call g vs)) (called q g)
+
+  pub keeps_activation : (call : ℕ → List Value → DirectCall) → AllCallsKeep call → (frames : List Shape) (g : ℕ) (fn : Function) → slice_get q.functions g ≡ Some fn → (g == q.start) ≡ is_empty frames → (body : List Stmt) (vs : List Value) → IsWellFormedFunction q fn → BodyFits q fn body → ((g == q.start) ≡ true → ReturnFits fn.result (Some (value.Int (pos 0)))) → InCells (parameter_types fn) vs → CallKeeps q frames (OfType fn.result) (direct.alone (unset_registers fn.registers) (ca.activation direct q bound call g fn body vs))
+  keeps_activation call calls frames g fn found alone body vs h fits main arguments = record { by = opened }
     where
       registers : List CType
       registers = map (λ d. d.ctype) fn.registers
 
-      on_call : (o : Gives Value) → GivesFit globals frames registers (OfType fn.result) o → CallGivesFit globals frames (OfType fn.result) (as_call o)
+      on_call : (o : Gives Value) → GivesFit q frames registers (OfType fn.result) o → CallGivesFit q frames (OfType fn.result) (as_call o)
       on_call (Done v w r) k = (k.0, k.1)
       on_call (Over e l) k = k
       on_call (Stuck e l) k = k
 
       rest : Here → Direct Value
       rest here =
-          direct.bind (sm.exec_all direct q.layouts call here bound (annotations body)) (λ c.
-          direct.bind (direct.emit here (act.Enter g vs)) (λ u.
           direct.bind (sm.exec_all direct q.layouts call here bound (after_annotations body)) (λ c.
           direct.bind (ca.given_back direct here (g == q.start) fn.result c) (λ v.
           direct.bind (direct.emit here (act.Return g v)) (λ u.
           direct.bind (ca.close_frame direct) (λ u.
-          direct.pure (value_or_zero v)))))))
+          direct.pure (value_or_zero v)))))
 
-      closed : (here : Here) (s : Shape) → Closes globals (s ∷ frames) frames registers (OfType fn.result) (rest here)
+      closed : (here : Here) (s : Shape) → Closes q (s ∷ frames) frames registers (OfType fn.result) (rest here)
       closed here s =
-          closes_bind (keeps_exec_all q fn globals (s ∷ frames) here call bound (scalar_registers q.layouts fn.registers h.registers) (calls (s ∷ frames)) (leading_setting q fn) (annotations body) fits.0) (λ c k.
-          closes_bind (keeps_emit here (act.Enter g vs)) (λ u k.
-          closes_bind (keeps_exec_all q fn globals (s ∷ frames) here call bound (scalar_registers q.layouts fn.registers h.registers) (calls (s ∷ frames)) (setting_of q fn) (after_annotations body) fits.1) (λ c k.
+          closes_bind (keeps_exec_all q fn (s ∷ frames) here call bound (scalar_registers q.layouts fn.registers h.registers) (short_locals fn.locals h.locals) (calls s frames) (setting_of q fn) (after_annotations body) fits.1) (λ c k.
           closes_bind (keeps_given_back here (g == q.start) fn.result c main k) (λ v k.
-          closes_bind (keeps_emit here (act.Return g v)) (λ u l.
-          closes_frame globals s frames registers (OfType fn.result) (value_or_zero v) (value_fits fn.result v k))))))
+          closes_bind (keeps_emit here (act.Return g v) (λ fs. record { function = fn; found = found; result = k })) (λ u l.
+          closes_frame q s frames registers (OfType fn.result) (value_or_zero v) (value_fits fn.result v k))))
 
-      opened : (w : World) → MemoryFits globals frames w.memory → CallGivesFit globals frames (OfType fn.result) (direct.alone (unset_registers fn.registers) (ca.activation direct q bound call g fn body vs) w)
-      opened w m = on_call (ca.activation direct q bound call g fn body vs w (unset_registers fn.registers)) ((closed (record { function = g; activation = w.made }) (shape_of (first_frame q.layouts fn w.made vs))).by _ (unset_registers fn.registers) (record { globals_declared = m.globals_declared; frames_declared = ap (λ ss. shape_of (first_frame q.layouts fn w.made vs) ∷ ss) m.frames_declared; globals_fit = m.globals_fit; locals_fit = (arguments_fit q.layouts sizes fn.locals fn.params vs h.locals h.parameters arguments, m.locals_fit) }) (unset_fit fn.registers))
+      opened : (w : World) → Fits q frames w → CallGivesFit q frames (OfType fn.result) (direct.alone (unset_registers fn.registers) (ca.activation direct q bound call g fn body vs) w)
+      opened w m = on_call (ca.activation direct q bound call g fn body vs w (unset_registers fn.registers)) (after_leading q (own ∷ frames) frames registers here call bound begun (OfType fn.result) (λ c. direct.bind (direct.emit here (act.Enter g vs)) (λ u. rest here)) entered body _ (unset_registers fn.registers) refl (begun_fits, m.1) (unset_fit fn.registers))
+        where
+          here : Here
+          here = record { function = g; activation = w.made }
+
+          own : Shape
+          own = shape_of (first_frame q.layouts fn w.made vs)
+
+          begun : Memory
+          begun = with_frame (first_frame q.layouts fn w.made vs) w.memory
+
+          begun_fits : MemoryFits (global_cells q) (own ∷ frames) begun
+          begun_fits = record { globals_declared = m.0.globals_declared; frames_declared = ap (λ ss. own ∷ ss) m.0.frames_declared; globals_fit = m.0.globals_fit; locals_fit = (arguments_fit q.layouts sizes fn.locals fn.params vs h.locals h.parameters arguments, m.0.locals_fit) }
+
+          begun_alone : (g == q.start) ≡ is_empty w.memory.frames
+          begun_alone = alone ∙ (sym (ap is_empty m.0.frames_declared) ∙ is_empty_map shape_of w.memory.frames)
+
+          enters : EnterFits q begun.frames g vs
+          enters = record { function = fn; found = found; arguments = arguments; hold = arguments_hold q.layouts fn.locals fn.params vs h.parameters arguments; main_alone = begun_alone }
+
+          entered : (v : World) (r : Registers) → v.memory ≡ begun → Fits q (own ∷ frames) v → RegistersFit registers r → GivesFit q frames registers (OfType fn.result) (direct.bind (direct.emit here (act.Enter g vs)) (λ u. rest here) v r)
+          entered v r e k l = (closed here own).by (record v { log = step_by here (act.Enter g vs) v.memory ∷ v.log }) r (k.0, (step_fits q (own ∷ frames) here (act.Enter g vs) v k (subst (λ x. EnterFits q x.frames g vs) (sym e) enters), k.1)) l

@@ -27,17 +27,11 @@ use Rattle.step_meaning.specs.ExpressionTypes.{where_true, has_this_type, has_ki
 use Rattle.step_meaning.specs.ExpressionTypes as typing
 use Rattle.step_meaning.proofs.Ranges.{false_is_not_true, left_of_and, right_of_and}
 use Rattle.step_meaning.proofs.TypedMemory.{WhereSome, InCell, Shape}
+use Rattle.step_meaning.proofs.StepsFit.{InCells}
 use Rattle.step_meaning.proofs.TypedAccesses.{keeps_get_char, keeps_put_char}
 use Rattle.step_meaning.proofs.TypedOperators.{OfType, where_true_fits, either_true, Typed, kind_keeps, some_keeps, scalar_is_some, keeps_convert, keeps_unary, keeps_binary, keeps_compare, keeps_not, keeps_both, keeps_either, keeps_move, keeps_difference}
 use Rattle.step_meaning.proofs.TypedPlaces.{Designates, all_some, NullKeeps, PlaceTyped, keeps_choice, taken_keeps, keeps_read, keeps_assign, keeps_update, keeps_address, keeps_deref, keeps_member, keeps_element}
 use Rattle.step_meaning.proofs.Kept.{CallKeeps, Keeps, keeps_pure, keeps_bind, keeps_emit, keeps_through}
-
--- arguments of these types
-abbrev pub InCells : List CType → List Value → Type 0
-InCells [] [] = Unit {0}
-InCells (t ∷ ts) (v ∷ vs) = InCell t v × InCells ts vs
-InCells [] (v ∷ vs) = ⊥
-InCells (t ∷ ts) [] = ⊥
 
 null_is : (e : Expr) → is_null e ≡ true → e ≡ Null
 null_is Null h = refl
@@ -57,7 +51,7 @@ some_beside_null : (e : Expr) (b : Option CType) → is_pointer_beside_null e b 
 some_beside_null e (Some t) h = refl
 some_beside_null e None h = right_of_and (is_null e) _ h
 
-module _ (q : Core) (f : Function) (globals : List (List CType)) (frames : List Shape) (here : Here) (call : ℕ → List Value → DirectCall) where
+module _ (q : Core) (f : Function) (frames : List Shape) (here : Here) (call : ℕ → List Value → DirectCall) where
   abbrev pub register_types : List CType
   register_types = map (λ d. d.ctype) f.registers
 
@@ -65,7 +59,7 @@ module _ (q : Core) (f : Function) (globals : List (List CType)) (frames : List 
   own = code_setting q f
 
   abbrev pub K : {A : Type 0} → (A → Type 0) → Direct A → Type 0
-  K P d = Keeps globals frames register_types P d
+  K P d = Keeps q frames register_types P d
 
   abbrev pub eval : Expr → Direct Value
   eval e = ex.eval direct call here e
@@ -79,9 +73,9 @@ module _ (q : Core) (f : Function) (globals : List (List CType)) (frames : List 
 
   -- calls of functions that may be called keep types
   abbrev pub CallsKeep : Type 0
-  CallsKeep = (g : ℕ) → WhereSome (λ fn. (vs : List Value) → InCells (parameter_types fn) vs → CallKeeps globals frames (OfType fn.result) (call g vs)) (called q g)
+  CallsKeep = (g : ℕ) → WhereSome (λ fn. (vs : List Value) → InCells (parameter_types fn) vs → CallKeeps q frames (OfType fn.result) (call g vs)) (called q g)
 
-  pub null_keeps : (e : Expr) → NullKeeps globals frames register_types here e (eval e)
+  pub null_keeps : (e : Expr) → NullKeeps q frames register_types here e (eval e)
   null_keeps e h p t = subst (λ e. K (InCell (type.Pointer' p t)) (eval e)) (sym (null_is e h)) (keeps_pure value.Null (tt, tt))
 
   null_is_some : (e : Expr) → is_null e ≡ true → is_some (typing.type_of q own e) ≡ true
@@ -95,7 +89,7 @@ module _ (q : Core) (f : Function) (globals : List (List CType)) (frames : List 
       (λ h. (null_is_some e (left_of_and _ _ h), some_beside_null e (typing.type_of q own g) h))
       (λ h. (some_beside_null g (typing.type_of q own e) h, null_is_some g (left_of_and _ _ h)))))
 
-  keeps_own : ScalarRegisters → (k : NameKind) (i : ℕ) → PlaceTyped globals frames register_types here (is_register (Own (record { kind = k; index = i }))) (variable_type own (record { kind = k; index = i })) (direct.pure (designated here.activation (record { kind = k; index = i }) 0))
+  keeps_own : ScalarRegisters → (k : NameKind) (i : ℕ) → PlaceTyped q frames register_types here (is_register (Own (record { kind = k; index = i }))) (variable_type own (record { kind = k; index = i })) (direct.pure (designated here.activation (record { kind = k; index = i }) 0))
   keeps_own scalars names.Global i = all_some _ (variable_type own (record { kind = names.Global; index = i })) (λ t. keeps_pure _ (omega arith, refl))
   keeps_own scalars names.Local i = all_some _ (variable_type own (record { kind = names.Local; index = i })) (λ t. keeps_pure _ (omega arith, refl))
   keeps_own scalars names.Register i = by (option_map (λ d. d.ctype) (slice_get f.registers i)) (scalars i)
@@ -106,53 +100,53 @@ module _ (q : Core) (f : Function) (globals : List (List CType)) (frames : List 
   keeps_own scalars names.GhostGlobal i = tt
   keeps_own scalars names.GhostLocal i = tt
 
-  keeps_call : (g : ℕ) (fit : List CType → Bool) (o : Option Function) (d : Direct (List Value)) → WhereSome (λ fn. (vs : List Value) → InCells (parameter_types fn) vs → CallKeeps globals frames (OfType fn.result) (call g vs)) o → ((ts : List CType) → fit ts ≡ true → K (InCells ts) d) → Typed globals frames register_types (call_type o fit) (direct.bind d (λ vs. direct.bind (direct.emit here (act.Call g)) (λ u. direct.through (call g vs))))
+  keeps_call : (g : ℕ) (fit : List CType → Bool) (o : Option Function) (d : Direct (List Value)) → WhereSome (λ fn. (vs : List Value) → InCells (parameter_types fn) vs → CallKeeps q frames (OfType fn.result) (call g vs)) o → ((ts : List CType) → fit ts ≡ true → K (InCells ts) d) → Typed q frames register_types (call_type o fit) (direct.bind d (λ vs. direct.bind (direct.emit here (act.Call g)) (λ u. direct.through (call g vs))))
   keeps_call g fit None d h k = tt
-  keeps_call g fit (Some fn) d h k = where_true_fits _ (fit (parameter_types fn)) fn.result (λ e. keeps_bind (k (parameter_types fn) e) (λ vs a. keeps_bind (keeps_emit here (act.Call g)) (λ u b. keeps_through (h vs a))))
+  keeps_call g fit (Some fn) d h k = where_true_fits _ (fit (parameter_types fn)) fn.result (λ e. keeps_bind (k (parameter_types fn) e) (λ vs a. keeps_bind (keeps_emit here (act.Call g) (λ fs. tt)) (λ u b. keeps_through (h vs a))))
 
-  keeps_chosen : (c : Bool) (e g h : Expr) → has_scalar_type (typing.type_of q own e) ≡ c → Typed globals frames register_types (typing.type_of q own e) (eval e) → Typed globals frames register_types (typing.type_of q own g) (eval g) → Typed globals frames register_types (typing.type_of q own h) (eval h) → Typed globals frames register_types (cond c (choice_type g (typing.type_of q own g) h (typing.type_of q own h)) None) (direct.bind (eval e) (λ v. cond (truth v) (eval g) (eval h)))
-  keeps_chosen true e g h s i j k = keeps_choice globals frames register_types here g h (typing.type_of q own g) (typing.type_of q own h) (eval e) (eval g) (eval h) (some_keeps globals frames register_types here (typing.type_of q own e) (eval e) (scalar_is_some globals frames register_types here (typing.type_of q own e) s) i) j k (null_keeps g) (null_keeps h)
+  keeps_chosen : (c : Bool) (e g h : Expr) → has_scalar_type (typing.type_of q own e) ≡ c → Typed q frames register_types (typing.type_of q own e) (eval e) → Typed q frames register_types (typing.type_of q own g) (eval g) → Typed q frames register_types (typing.type_of q own h) (eval h) → Typed q frames register_types (cond c (choice_type g (typing.type_of q own g) h (typing.type_of q own h)) None) (direct.bind (eval e) (λ v. cond (truth v) (eval g) (eval h)))
+  keeps_chosen true e g h s i j k = keeps_choice q frames register_types here g h (typing.type_of q own g) (typing.type_of q own h) (eval e) (eval g) (eval h) (some_keeps q frames register_types here (typing.type_of q own e) (eval e) (scalar_is_some q frames register_types here (typing.type_of q own e) s) i) j k (null_keeps g) (null_keeps h)
   keeps_chosen false e g h s i j k = tt
 
   module _ (scalars : ScalarRegisters) (calls : CallsKeep) where
     mutual
-      pub keeps_eval : (e : Expr) → Typed globals frames register_types (typing.type_of q own e) (eval e)
+      pub keeps_eval : (e : Expr) → Typed q frames register_types (typing.type_of q own e) (eval e)
       keeps_eval (Literal k z) = where_true_fits _ (is_promoted k && (is_in_range k z && int_le (pos 0) z)) (type.Int k) (λ h. keeps_pure (value.Int z) (left_of_and _ _ (right_of_and _ _ h), tt))
       keeps_eval Null = keeps_pure value.Null (tt, tt)
-      keeps_eval (Load p t) = where_true_fits _ (is_scalar t && has_this_type t (typing.type_of_place q own p)) t (λ h. keeps_read globals frames register_types here (is_register p) t (typing.type_of_place q own p) (place p) h (keeps_place p))
-      keeps_eval (Address p t) = where_true_fits _ (not (is_register p) && typing.is_addressed_at t (typing.type_of_place q own p)) (pointer_to t) (λ h. keeps_address globals frames register_types here (is_register p) t (typing.type_of_place q own p) (place p) h (keeps_place p))
-      keeps_eval (Convert' k b (more_of-Expr e end_of-Expr)) = keeps_convert globals frames register_types here k (typing.type_of q own e) (eval e) (keeps_eval e)
-      keeps_eval (Unary' o k b (more_of-Expr e end_of-Expr)) = where_true_fits _ (is_promoted k && has_kind k (typing.type_of q own e)) (type.Int k) (λ h. keeps_unary globals frames register_types here o k (typing.type_of q own e) (eval e) h (keeps_eval e))
-      keeps_eval (Binary' o k b (more_of-Expr e end_of-Expr) c (more_of-Expr g end_of-Expr)) = keeps_binary globals frames register_types here o k (typing.type_of q own e) (typing.type_of q own g) (eval e) (eval g) (keeps_eval e) (keeps_eval g)
+      keeps_eval (Load p t) = where_true_fits _ (is_scalar t && has_this_type t (typing.type_of_place q own p)) t (λ h. keeps_read q frames register_types here (is_register p) t (typing.type_of_place q own p) (place p) h (keeps_place p))
+      keeps_eval (Address p t) = where_true_fits _ (not (is_register p) && typing.is_addressed_at t (typing.type_of_place q own p)) (pointer_to t) (λ h. keeps_address q frames register_types here (is_register p) t (typing.type_of_place q own p) (place p) h (keeps_place p))
+      keeps_eval (Convert' k b (more_of-Expr e end_of-Expr)) = keeps_convert q frames register_types here k (typing.type_of q own e) (eval e) (keeps_eval e)
+      keeps_eval (Unary' o k b (more_of-Expr e end_of-Expr)) = where_true_fits _ (is_promoted k && has_kind k (typing.type_of q own e)) (type.Int k) (λ h. keeps_unary q frames register_types here o k (typing.type_of q own e) (eval e) h (keeps_eval e))
+      keeps_eval (Binary' o k b (more_of-Expr e end_of-Expr) c (more_of-Expr g end_of-Expr)) = keeps_binary q frames register_types here o k (typing.type_of q own e) (typing.type_of q own g) (eval e) (eval g) (keeps_eval e) (keeps_eval g)
       keeps_eval (Compare' o b (more_of-Expr e end_of-Expr) c (more_of-Expr g end_of-Expr)) =
           where_true_fits _ (are_comparable o e (typing.type_of q own e) g (typing.type_of q own g)) (type.Int kind.Int) (λ h.
-          keeps_compare globals frames register_types here o (eval e) (eval g) (some_keeps globals frames register_types here (typing.type_of q own e) (eval e) (comparable_is_some o e g h).0 (keeps_eval e)) (some_keeps globals frames register_types here (typing.type_of q own g) (eval g) (comparable_is_some o e g h).1 (keeps_eval g)))
-      keeps_eval (Move' b (more_of-Expr e end_of-Expr) c (more_of-Expr g end_of-Expr) size side) = keeps_move globals frames register_types here own.layouts size side (typing.type_of q own e) (typing.type_of q own g) (eval e) (eval g) (keeps_eval e) (keeps_eval g)
-      keeps_eval (Difference' b (more_of-Expr e end_of-Expr) c (more_of-Expr g end_of-Expr) unit) = keeps_difference globals frames register_types here own.layouts unit (typing.type_of q own e) (typing.type_of q own g) (eval e) (eval g) (keeps_eval e) (keeps_eval g)
-      keeps_eval (Not' b (more_of-Expr e end_of-Expr)) = where_true_fits _ (has_scalar_type (typing.type_of q own e)) (type.Int kind.Int) (λ h. keeps_not globals frames register_types here (eval e) (some_keeps globals frames register_types here (typing.type_of q own e) (eval e) (scalar_is_some globals frames register_types here (typing.type_of q own e) h) (keeps_eval e)))
+          keeps_compare q frames register_types here o (eval e) (eval g) (some_keeps q frames register_types here (typing.type_of q own e) (eval e) (comparable_is_some o e g h).0 (keeps_eval e)) (some_keeps q frames register_types here (typing.type_of q own g) (eval g) (comparable_is_some o e g h).1 (keeps_eval g)))
+      keeps_eval (Move' b (more_of-Expr e end_of-Expr) c (more_of-Expr g end_of-Expr) size side) = keeps_move q frames register_types here own.layouts size side (typing.type_of q own e) (typing.type_of q own g) (eval e) (eval g) (keeps_eval e) (keeps_eval g)
+      keeps_eval (Difference' b (more_of-Expr e end_of-Expr) c (more_of-Expr g end_of-Expr) unit) = keeps_difference q frames register_types here own.layouts unit (typing.type_of q own e) (typing.type_of q own g) (eval e) (eval g) (keeps_eval e) (keeps_eval g)
+      keeps_eval (Not' b (more_of-Expr e end_of-Expr)) = where_true_fits _ (has_scalar_type (typing.type_of q own e)) (type.Int kind.Int) (λ h. keeps_not q frames register_types here (eval e) (some_keeps q frames register_types here (typing.type_of q own e) (eval e) (scalar_is_some q frames register_types here (typing.type_of q own e) h) (keeps_eval e)))
       keeps_eval (Both' b (more_of-Expr e end_of-Expr) c (more_of-Expr g end_of-Expr)) =
           where_true_fits _ (has_scalar_type (typing.type_of q own e) && has_scalar_type (typing.type_of q own g)) (type.Int kind.Int) (λ h.
-          keeps_both globals frames register_types here (eval e) (eval g) (some_keeps globals frames register_types here (typing.type_of q own e) (eval e) (scalar_is_some globals frames register_types here (typing.type_of q own e) (left_of_and _ _ h)) (keeps_eval e)) (some_keeps globals frames register_types here (typing.type_of q own g) (eval g) (scalar_is_some globals frames register_types here (typing.type_of q own g) (right_of_and _ _ h)) (keeps_eval g)))
+          keeps_both q frames register_types here (eval e) (eval g) (some_keeps q frames register_types here (typing.type_of q own e) (eval e) (scalar_is_some q frames register_types here (typing.type_of q own e) (left_of_and _ _ h)) (keeps_eval e)) (some_keeps q frames register_types here (typing.type_of q own g) (eval g) (scalar_is_some q frames register_types here (typing.type_of q own g) (right_of_and _ _ h)) (keeps_eval g)))
       keeps_eval (Either' b (more_of-Expr e end_of-Expr) c (more_of-Expr g end_of-Expr)) =
           where_true_fits _ (has_scalar_type (typing.type_of q own e) && has_scalar_type (typing.type_of q own g)) (type.Int kind.Int) (λ h.
-          keeps_either globals frames register_types here (eval e) (eval g) (some_keeps globals frames register_types here (typing.type_of q own e) (eval e) (scalar_is_some globals frames register_types here (typing.type_of q own e) (left_of_and _ _ h)) (keeps_eval e)) (some_keeps globals frames register_types here (typing.type_of q own g) (eval g) (scalar_is_some globals frames register_types here (typing.type_of q own g) (right_of_and _ _ h)) (keeps_eval g)))
+          keeps_either q frames register_types here (eval e) (eval g) (some_keeps q frames register_types here (typing.type_of q own e) (eval e) (scalar_is_some q frames register_types here (typing.type_of q own e) (left_of_and _ _ h)) (keeps_eval e)) (some_keeps q frames register_types here (typing.type_of q own g) (eval g) (scalar_is_some q frames register_types here (typing.type_of q own g) (right_of_and _ _ h)) (keeps_eval g)))
       keeps_eval (Choose' b (more_of-Expr e end_of-Expr) c (more_of-Expr g end_of-Expr) d (more_of-Expr h end_of-Expr)) =
           keeps_chosen (has_scalar_type (typing.type_of q own e)) e g h refl (keeps_eval e) (keeps_eval g) (keeps_eval h)
-      keeps_eval (Assign' p t b (more_of-Expr e end_of-Expr)) = where_true_fits _ (has_this_type t (typing.type_of_place q own p) && is_taken_by t e (typing.type_of q own e)) t (λ h. keeps_assign globals frames register_types here (is_register p) t e (typing.type_of_place q own p) (typing.type_of q own e) (place p) (eval e) h (keeps_place p) (keeps_eval e) (null_keeps e))
-      keeps_eval (Update' p t u b (more_of-Expr e end_of-Expr) w) = where_true_fits _ (has_this_type t (typing.type_of_place q own p) && (typing.is_operation own.layouts t u (typing.type_of q own e) && may_answer t u e w)) t (λ h. keeps_update globals frames register_types here own.layouts (is_register p) t u w (may_answer t u e w) (typing.type_of_place q own p) (typing.type_of q own e) (place p) (eval e) h (keeps_place p) (keeps_eval e))
+      keeps_eval (Assign' p t b (more_of-Expr e end_of-Expr)) = where_true_fits _ (has_this_type t (typing.type_of_place q own p) && is_taken_by t e (typing.type_of q own e)) t (λ h. keeps_assign q frames register_types here (is_register p) t e (typing.type_of_place q own p) (typing.type_of q own e) (place p) (eval e) h (keeps_place p) (keeps_eval e) (null_keeps e))
+      keeps_eval (Update' p t u b (more_of-Expr e end_of-Expr) w) = where_true_fits _ (has_this_type t (typing.type_of_place q own p) && (typing.is_operation own.layouts t u (typing.type_of q own e) && may_answer t u e w)) t (λ h. keeps_update q frames register_types here own.layouts (is_register p) t u w (may_answer t u e w) (typing.type_of_place q own p) (typing.type_of q own e) (place p) (eval e) h (keeps_place p) (keeps_eval e))
       keeps_eval (Invoke' g b es) = keeps_call g (typing.are_arguments q own es) (called q g) (ex.all direct call here es) (calls g) (keeps_all es)
       keeps_eval GetChar = keeps_get_char here
-      keeps_eval (PutChar' b (more_of-Expr e end_of-Expr)) = where_true_fits _ (has_kind kind.Int (typing.type_of q own e)) (type.Int kind.Int) (λ h. keeps_bind (kind_keeps globals frames register_types here kind.Int (typing.type_of q own e) (eval e) h (keeps_eval e)) (λ v k. keeps_put_char here v))
-      keeps_eval (Discard' b (more_of-Expr e end_of-Expr)) = where_true_fits _ (is_some (typing.type_of q own e)) type.Void (λ h. keeps_bind (some_keeps globals frames register_types here (typing.type_of q own e) (eval e) h (keeps_eval e)) (λ v k. keeps_pure (value.Int (pos 0)) tt))
+      keeps_eval (PutChar' b (more_of-Expr e end_of-Expr)) = where_true_fits _ (has_kind kind.Int (typing.type_of q own e)) (type.Int kind.Int) (λ h. keeps_bind (kind_keeps q frames register_types here kind.Int (typing.type_of q own e) (eval e) h (keeps_eval e)) (λ v k. keeps_put_char here v))
+      keeps_eval (Discard' b (more_of-Expr e end_of-Expr)) = where_true_fits _ (is_some (typing.type_of q own e)) type.Void (λ h. keeps_bind (some_keeps q frames register_types here (typing.type_of q own e) (eval e) h (keeps_eval e)) (λ v k. keeps_pure (value.Int (pos 0)) tt))
 
-      pub keeps_place : (p : Place_) → PlaceTyped globals frames register_types here (is_register p) (typing.type_of_place q own p) (place p)
+      pub keeps_place : (p : Place_) → PlaceTyped q frames register_types here (is_register p) (typing.type_of_place q own p) (place p)
       keeps_place (Own v) = keeps_own scalars v.kind v.index
-      keeps_place (Deref' b (more_of-Expr e end_of-Expr)) = keeps_deref globals frames register_types here (typing.type_of q own e) (eval e) (keeps_eval e)
-      keeps_place (Member' b (more_of-Place_ p end_of-Place_) o) = keeps_member globals frames register_types here own.layouts (is_register p) o (typing.type_of_place q own p) (place p) (keeps_place p)
-      keeps_place (Index' b (more_of-Place_ p end_of-Place_) c (more_of-Expr e end_of-Expr) size) = keeps_element globals frames register_types here own.layouts (is_register p) size (typing.type_of_place q own p) (typing.type_of q own e) (place p) (eval e) (keeps_place p) (keeps_eval e)
+      keeps_place (Deref' b (more_of-Expr e end_of-Expr)) = keeps_deref q frames register_types here (typing.type_of q own e) (eval e) (keeps_eval e)
+      keeps_place (Member' b (more_of-Place_ p end_of-Place_) o) = keeps_member q frames register_types here own.layouts (is_register p) o (typing.type_of_place q own p) (place p) (keeps_place p)
+      keeps_place (Index' b (more_of-Place_ p end_of-Place_) c (more_of-Expr e end_of-Expr) size) = keeps_element q frames register_types here own.layouts (is_register p) size (typing.type_of_place q own p) (typing.type_of q own e) (place p) (eval e) (keeps_place p) (keeps_eval e)
 
       pub keeps_all : {n : _} (es : Row_of-Expr n) (ts : List CType) → typing.are_arguments q own es ts ≡ true → K (InCells ts) (ex.all direct call here es)
       keeps_all end_of-Expr [] h = keeps_pure [] tt
       keeps_all end_of-Expr (t ∷ ts) h = false_is_not_true h
       keeps_all (more_of-Expr e more) [] h = false_is_not_true h
-      keeps_all (more_of-Expr e more) (t ∷ ts) h = keeps_bind (taken_keeps globals frames register_types here t e (typing.type_of q own e) (eval e) (left_of_and _ _ h) (keeps_eval e) (null_keeps e)) (λ v k. keeps_bind (keeps_all more ts (right_of_and _ _ h)) (λ vs l. keeps_pure (v ∷ vs) (k, l)))
+      keeps_all (more_of-Expr e more) (t ∷ ts) h = keeps_bind (taken_keeps q frames register_types here t e (typing.type_of q own e) (eval e) (left_of_and _ _ h) (keeps_eval e) (null_keeps e)) (λ v k. keeps_bind (keeps_all more ts (right_of_and _ _ h)) (λ vs l. keeps_pure (v ∷ vs) (k, l)))

@@ -1,5 +1,5 @@
 -- Memories whose cells hold values of their types stay so, and an access gives a value of its type.
-use Rattle.std.proofs.Common.{◌≡◌, ℕ, zero, suc, ◌<◌, ◌^◌, Bool, true, false, cond, List, [], ◌∷◌, length, map, Option, Some, None, refl, ap, ◌∙◌}
+use Rattle.std.proofs.Common.{◌≡◌, ℕ, zero, suc, ◌<◌, ◌^◌, Bool, true, false, cond, List, [], ◌∷◌, length, map, drop, Option, Some, None, refl, ap, ◌∙◌}
 use Rattle.std.specs.Prelude.{slice_get, option_and_then, option_map, IsTrue, ◌==◌}
 use Rattle.std.specs.List.{AllByRecursion}
 use Rattle.std.proofs.lemmas.Bool.{eqb-true}
@@ -34,6 +34,18 @@ pub get_fits : {A : Type 0} (P : A → Type 0) (xs : List A) (i : ℕ) → Each 
 get_fits P [] i h = tt
 get_fits P (x ∷ xs) zero h = h.0
 get_fits P (x ∷ xs) (suc i) h = get_fits P xs i h.1
+
+abbrev pub is_empty : {A : Type 0} → List A → Bool
+is_empty [] = true
+is_empty (x ∷ xs) = false
+
+pub is_empty_map : {A B : Type 0} (f : A → B) (xs : List A) → is_empty (map f xs) ≡ is_empty xs
+is_empty_map f [] = refl
+is_empty_map f (x ∷ xs) = refl
+
+pub drop_map : {A B : Type 0} (f : A → B) (xs : List A) → map f (drop 1 xs) ≡ drop 1 (map f xs)
+drop_map f [] = refl
+drop_map f (x ∷ xs) = refl
 
 -- ---- types of values
 

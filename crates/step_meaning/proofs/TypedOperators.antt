@@ -13,6 +13,7 @@ use Rattle.step_meaning.specs.declared.expr.CompareOp.{CompareOp}
 use Rattle.step_meaning.specs.declared.expr.Side.{Side}
 use Rattle.step_meaning.specs.declared.expr.Side.TheVariants.{PointerFirst, PointerLast, Minus}
 use Rattle.step_meaning.specs.declared.program.Layout.{Layout}
+use Rattle.step_meaning.specs.declared.program.Core.{Core}
 use Rattle.step_meaning.specs.Numbers.{converted, binary_of, unary_of}
 use Rattle.step_meaning.specs.Names.{integer, truth, of_truth, compared, distance}
 use Rattle.step_meaning.specs.Types.{same_type}
@@ -25,7 +26,8 @@ use Rattle.step_meaning.specs.ExpressionTypes.{where_true, is_void, has_this_typ
 use Rattle.step_meaning.proofs.Ranges.{false_is_not_true, left_of_and, right_of_and, converted_in_range}
 use Rattle.step_meaning.proofs.OperatorRanges.{InRange, binary_fits, unary_fits, distance_fits, HasShortOffset}
 use Rattle.step_meaning.proofs.TypedMemory.{WhereSome, InCell, has_same_type, same_type_turned, Shape}
-use Rattle.step_meaning.proofs.TypedAccesses.{IsAddress, address_of_type, type_of_address, keeps_move_by, keeps_int, keeps_truth, keeps_checked_truth}
+use Rattle.step_meaning.proofs.StepsFit.{IsAddress}
+use Rattle.step_meaning.proofs.TypedAccesses.{address_of_type, type_of_address, keeps_move_by, keeps_int, keeps_truth, keeps_checked_truth}
 use Rattle.step_meaning.proofs.Kept.{Keeps, Always, keeps_pure, keeps_bind, keeps_weaker, keeps_cond}
 
 -- ---- values of a type
@@ -78,24 +80,24 @@ not_true true e = false_is_not_true e
 not_true false e = refl
 
 -- where there is a type, the part gives a value of it
-abbrev pub Typed : List (List CType) → List Shape → List CType → Option CType → Direct Value → Type 0
-Typed globals frames registers o d = WhereSome (λ t. Keeps globals frames registers (OfType t) d) o
+abbrev pub Typed : Core → List Shape → List CType → Option CType → Direct Value → Type 0
+Typed q frames registers o d = WhereSome (λ t. Keeps q frames registers (OfType t) d) o
 
-module _ (globals : List (List CType)) (frames : List Shape) (registers : List CType) (here : Here) where
+module _ (q : Core) (frames : List Shape) (registers : List CType) (here : Here) where
   abbrev pub K : {A : Type 0} → (A → Type 0) → Direct A → Type 0
-  K P d = Keeps globals frames registers P d
+  K P d = Keeps q frames registers P d
 
   -- ---- what a test on a type tells
 
-  pub this_keeps : (t : CType) (o : Option CType) (d : Direct Value) → is_scalar t ≡ true → has_this_type t o ≡ true → Typed globals frames registers o d → K (InCell t) d
+  pub this_keeps : (t : CType) (o : Option CType) (d : Direct Value) → is_scalar t ≡ true → has_this_type t o ≡ true → Typed q frames registers o d → K (InCell t) d
   this_keeps t None d s e h = false_is_not_true e
   this_keeps t (Some u) d s e h = keeps_weaker (λ v g. in_same_cell t u v s e g) h
 
-  pub kind_keeps : (k : IntKind) (o : Option CType) (d : Direct Value) → has_kind k o ≡ true → Typed globals frames registers o d → K (InCell (type.Int k)) d
+  pub kind_keeps : (k : IntKind) (o : Option CType) (d : Direct Value) → has_kind k o ≡ true → Typed q frames registers o d → K (InCell (type.Int k)) d
   kind_keeps k o d e h = this_keeps (type.Int k) o d refl e h
 
   -- a part with some type keeps
-  pub some_keeps : (o : Option CType) (d : Direct Value) → is_some o ≡ true → Typed globals frames registers o d → K Always d
+  pub some_keeps : (o : Option CType) (d : Direct Value) → is_some o ≡ true → Typed q frames registers o d → K Always d
   some_keeps None d e h = false_is_not_true e
   some_keeps (Some t) d e h = keeps_weaker (λ v g. tt) h
 
@@ -125,7 +127,7 @@ module _ (globals : List (List CType)) (frames : List Shape) (registers : List C
 
   -- ---- operators on integers
 
-  pub keeps_convert : (k : IntKind) (o : Option CType) (d : Direct Value) → Typed globals frames registers o d → Typed globals frames registers (converted_type k o) (direct.bind d (λ v. direct.pure (value.Int (converted k (integer v)))))
+  pub keeps_convert : (k : IntKind) (o : Option CType) (d : Direct Value) → Typed q frames registers o d → Typed q frames registers (converted_type k o) (direct.bind d (λ v. direct.pure (value.Int (converted k (integer v)))))
   keeps_convert k None d h = tt
   keeps_convert k (Some (type.Int l)) d h = where_true_fits _ (not (same_int_kind k l)) (type.Int k) (λ e. keeps_bind h (λ v g. keeps_pure (value.Int (converted k (integer v))) (converted_in_range k (integer v), tt)))
   keeps_convert k (Some type.Void) d h = tt
@@ -133,7 +135,7 @@ module _ (globals : List (List CType)) (frames : List Shape) (registers : List C
   keeps_convert k (Some (type.Array' b t n)) d h = tt
   keeps_convert k (Some (type.Struct n)) d h = tt
 
-  pub keeps_unary : (u : UnaryOp) (k : IntKind) (o : Option CType) (d : Direct Value) → (is_promoted k && has_kind k o) ≡ true → Typed globals frames registers o d → K (InCell (type.Int k)) (direct.bind d (λ v. acc.as_int direct (acc.checked direct here (unary_of u k (integer v)))))
+  pub keeps_unary : (u : UnaryOp) (k : IntKind) (o : Option CType) (d : Direct Value) → (is_promoted k && has_kind k o) ≡ true → Typed q frames registers o d → K (InCell (type.Int k)) (direct.bind d (λ v. acc.as_int direct (acc.checked direct here (unary_of u k (integer v)))))
   keeps_unary u k o d e h = keeps_bind (kind_keeps k o d (right_of_and _ _ e) h) (λ v g. keeps_int here k (unary_of u k (integer v)) (unary_fits u k (integer v)))
 
   pub right_is_some : (o : IntOp) (k : IntKind) (b : Option CType) → cond (is_shift o) (has_promoted_kind b) (has_kind k b) ≡ true → is_some b ≡ true
@@ -143,7 +145,7 @@ module _ (globals : List (List CType)) (frames : List Shape) (registers : List C
       by true e = promoted_is_some b e
       by false e = kind_is_some k b e
 
-  pub keeps_binary : (o : IntOp) (k : IntKind) (a b : Option CType) (d x : Direct Value) → Typed globals frames registers a d → Typed globals frames registers b x → Typed globals frames registers (binary_type o k a b) (direct.bind d (λ v. direct.bind x (λ w. acc.as_int direct (acc.checked direct here (binary_of o k (integer v) (integer w))))))
+  pub keeps_binary : (o : IntOp) (k : IntKind) (a b : Option CType) (d x : Direct Value) → Typed q frames registers a d → Typed q frames registers b x → Typed q frames registers (binary_type o k a b) (direct.bind d (λ v. direct.bind x (λ w. acc.as_int direct (acc.checked direct here (binary_of o k (integer v) (integer w))))))
   keeps_binary o k a b d x h g =
       where_true_fits _ (is_promoted k && (has_kind k a && cond (is_shift o) (has_promoted_kind b) (has_kind k b))) (type.Int k) (λ e.
       keeps_bind (kind_keeps k a d (left_of_and _ _ (right_of_and _ _ e)) h) (λ v i.
@@ -166,7 +168,7 @@ module _ (globals : List (List CType)) (frames : List Shape) (registers : List C
 
   -- ---- pointers
 
-  keeps_moved : (layouts : List Layout) (size : ℕ) (o b : Option CType) (by : Value → Value → ℤ) (d x : Direct Value) → Typed globals frames registers o d → Typed globals frames registers b x → Typed globals frames registers (moved_type layouts size o b) (direct.bind d (λ v. direct.bind x (λ w. acc.move_by direct here v (by v w))))
+  keeps_moved : (layouts : List Layout) (size : ℕ) (o b : Option CType) (by : Value → Value → ℤ) (d x : Direct Value) → Typed q frames registers o d → Typed q frames registers b x → Typed q frames registers (moved_type layouts size o b) (direct.bind d (λ v. direct.bind x (λ w. acc.move_by direct here v (by v w))))
   keeps_moved layouts size (Some (type.Pointer' p (more_of-CType t end_of-CType))) b by d x h g =
       where_true_fits _ (not (is_void t) && (size == cells layouts t && has_integer_type b)) (type.Pointer' p (more_of-CType t end_of-CType)) (λ e.
       keeps_bind h (λ v i.
@@ -179,7 +181,7 @@ module _ (globals : List (List CType)) (frames : List Shape) (registers : List C
   keeps_moved layouts size (Some (type.Struct n)) b by d x h g = tt
 
   -- the pointer second
-  keeps_moved_last : (layouts : List Layout) (size : ℕ) (o b : Option CType) (by : Value → Value → ℤ) (d x : Direct Value) → Typed globals frames registers b d → Typed globals frames registers o x → Typed globals frames registers (moved_type layouts size o b) (direct.bind d (λ v. direct.bind x (λ w. acc.move_by direct here w (by v w))))
+  keeps_moved_last : (layouts : List Layout) (size : ℕ) (o b : Option CType) (by : Value → Value → ℤ) (d x : Direct Value) → Typed q frames registers b d → Typed q frames registers o x → Typed q frames registers (moved_type layouts size o b) (direct.bind d (λ v. direct.bind x (λ w. acc.move_by direct here w (by v w))))
   keeps_moved_last layouts size (Some (type.Pointer' p (more_of-CType t end_of-CType))) b by d x h g =
       where_true_fits _ (not (is_void t) && (size == cells layouts t && has_integer_type b)) (type.Pointer' p (more_of-CType t end_of-CType)) (λ e.
       keeps_bind (some_keeps b d (integer_is_some b (right_of_and _ _ (right_of_and _ _ e))) h) (λ v j.
@@ -191,12 +193,12 @@ module _ (globals : List (List CType)) (frames : List Shape) (registers : List C
   keeps_moved_last layouts size (Some (type.Array' p t n)) b by d x h g = tt
   keeps_moved_last layouts size (Some (type.Struct n)) b by d x h g = tt
 
-  pub keeps_move : (layouts : List Layout) (size : ℕ) (side : Side) (a b : Option CType) (d x : Direct Value) → Typed globals frames registers a d → Typed globals frames registers b x → Typed globals frames registers (move_type layouts size side a b) (direct.bind d (λ v. direct.bind x (λ w. acc.move_elements direct here side size v w)))
+  pub keeps_move : (layouts : List Layout) (size : ℕ) (side : Side) (a b : Option CType) (d x : Direct Value) → Typed q frames registers a d → Typed q frames registers b x → Typed q frames registers (move_type layouts size side a b) (direct.bind d (λ v. direct.bind x (λ w. acc.move_elements direct here side size v w)))
   keeps_move layouts size PointerFirst a b d x h g = keeps_moved layouts size a b (λ v w. integer w *ℤ pos size) d x h g
   keeps_move layouts size PointerLast a b d x h g = keeps_moved_last layouts size b a (λ v w. integer v *ℤ pos size) d x h g
   keeps_move layouts size Minus a b d x h g = keeps_moved layouts size a b (λ v w. neg_ℤ (integer w *ℤ pos size)) d x h g
 
-  pub keeps_difference : (layouts : List Layout) (unit : ℕ) (o b : Option CType) (d x : Direct Value) → Typed globals frames registers o d → Typed globals frames registers b x → Typed globals frames registers (difference_type layouts unit o b) (direct.bind d (λ v. direct.bind x (λ w. acc.as_int direct (acc.checked direct here (distance v w unit)))))
+  pub keeps_difference : (layouts : List Layout) (unit : ℕ) (o b : Option CType) (d x : Direct Value) → Typed q frames registers o d → Typed q frames registers b x → Typed q frames registers (difference_type layouts unit o b) (direct.bind d (λ v. direct.bind x (λ w. acc.as_int direct (acc.checked direct here (distance v w unit)))))
   keeps_difference layouts unit (Some (type.Pointer' p (more_of-CType t end_of-CType))) b d x h g =
       where_true_fits _ (not (is_void t) && (unit == cells layouts t && has_this_type (type.Pointer' p (more_of-CType t end_of-CType)) b)) (type.Int kind.Long) (λ e.
       keeps_bind h (λ v i.

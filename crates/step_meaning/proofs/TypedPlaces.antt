@@ -11,6 +11,7 @@ use Rattle.step_meaning.specs.declared.expr.Answer.{Answer}
 use Rattle.step_meaning.specs.declared.expr.Answer.TheVariants.{Before, After}
 use Rattle.step_meaning.specs.declared.expr.Expr.{Expr}
 use Rattle.step_meaning.specs.declared.program.Layout.{Layout}
+use Rattle.step_meaning.specs.declared.program.Core.{Core}
 use Rattle.step_meaning.specs.Numbers.{Checked, converted, binary_of}
 use Rattle.step_meaning.specs.Names.{integer, truth}
 use Rattle.step_meaning.specs.State.{Here, Lvalue, InRegister, At}
@@ -24,7 +25,8 @@ use Rattle.step_meaning.specs.Traced.{HasType}
 use Rattle.step_meaning.proofs.Ranges.{false_is_not_true, left_of_and, right_of_and, converted_in_range}
 use Rattle.step_meaning.proofs.OperatorRanges.{OnOk, InRange}
 use Rattle.step_meaning.proofs.TypedMemory.{WhereSome, InCell, Shape}
-use Rattle.step_meaning.proofs.TypedAccesses.{IsAddress, address_of_type, type_of_address, keeps_checked, keeps_move_by, keeps_load, keeps_store}
+use Rattle.step_meaning.proofs.StepsFit.{IsAddress}
+use Rattle.step_meaning.proofs.TypedAccesses.{IsPlace, address_of_type, type_of_address, keeps_checked, keeps_move_by, keeps_load, keeps_store}
 use Rattle.step_meaning.proofs.TypedOperators.{OfType, of_cell, where_true_fits, either_true, not_true, Typed, this_keeps, kind_keeps, some_keeps, this_is_some, integer_is_some}
 use Rattle.step_meaning.proofs.Kept.{Keeps, Always, keeps_pure, keeps_bind, keeps_weaker, keeps_cond}
 
@@ -50,9 +52,9 @@ true_of_some : (b : Bool) (t : CType) → is_some (where_true b t) ≡ true → 
 true_of_some true t e = refl
 true_of_some false t e = e
 
-module _ (globals : List (List CType)) (frames : List Shape) (registers : List CType) (here : Here) where
+module _ (q : Core) (frames : List Shape) (registers : List CType) (here : Here) where
   abbrev pub K : {A : Type 0} → (A → Type 0) → Direct A → Type 0
-  K P d = Keeps globals frames registers P d
+  K P d = Keeps q frames registers P d
 
   -- a null pointer constant is a pointer of each type
   abbrev pub NullKeeps : Expr → Direct Value → Type 0
@@ -61,19 +63,19 @@ module _ (globals : List (List CType)) (frames : List Shape) (registers : List C
   -- ---- choices
 
   -- the second part has the type of the first
-  second_keeps : (a b : Option CType) (f : Expr) (y : Direct Value) → (are_of_one_kind a b || (are_of_one_pointer a b || (are_void a b || is_pointer_beside_null f a))) ≡ true → Typed globals frames registers b y → NullKeeps f y → Typed globals frames registers a y
+  second_keeps : (a b : Option CType) (f : Expr) (y : Direct Value) → (are_of_one_kind a b || (are_of_one_pointer a b || (are_void a b || is_pointer_beside_null f a))) ≡ true → Typed q frames registers b y → NullKeeps f y → Typed q frames registers a y
   second_keeps None b f y e h n = tt
   second_keeps (Some (type.Int k)) b f y e h n =
-      either_true (is_promoted k && has_kind k b) _ e (λ e. kind_keeps globals frames registers here k b y (right_of_and _ _ e) h) (λ e. false_is_not_true (right_of_and (is_null f) false e))
+      either_true (is_promoted k && has_kind k b) _ e (λ e. kind_keeps q frames registers here k b y (right_of_and _ _ e) h) (λ e. false_is_not_true (right_of_and (is_null f) false e))
   second_keeps (Some (type.Pointer' p t)) b f y e h n =
-      either_true (has_this_type (type.Pointer' p t) b) _ e (λ e. this_keeps globals frames registers here (type.Pointer' p t) b y refl e h) (λ e. n (left_of_and (is_null f) true e) p t)
+      either_true (has_this_type (type.Pointer' p t) b) _ e (λ e. this_keeps q frames registers here (type.Pointer' p t) b y refl e h) (λ e. n (left_of_and (is_null f) true e) p t)
   second_keeps (Some type.Void) b f y e h n =
-      either_true (are_void (Some type.Void) b) _ e (λ e. some_keeps globals frames registers here b y (void_is_some (Some type.Void) b e) h) (λ e. false_is_not_true (right_of_and (is_null f) false e))
+      either_true (are_void (Some type.Void) b) _ e (λ e. some_keeps q frames registers here b y (void_is_some (Some type.Void) b e) h) (λ e. false_is_not_true (right_of_and (is_null f) false e))
   second_keeps (Some (type.Array' p t n)) b f y e h k = false_is_not_true (right_of_and (is_null f) false e)
   second_keeps (Some (type.Struct n)) b f y e h k = false_is_not_true (right_of_and (is_null f) false e)
 
   -- the first has that of the second
-  first_keeps : (b : Option CType) (e : Expr) (x : Direct Value) → is_pointer_beside_null e b ≡ true → NullKeeps e x → Typed globals frames registers b x
+  first_keeps : (b : Option CType) (e : Expr) (x : Direct Value) → is_pointer_beside_null e b ≡ true → NullKeeps e x → Typed q frames registers b x
   first_keeps None e x h n = tt
   first_keeps (Some (type.Pointer' p t)) e x h n = n (left_of_and _ _ h) p t
   first_keeps (Some type.Void) e x h n = false_is_not_true (right_of_and (is_null e) false h)
@@ -81,26 +83,26 @@ module _ (globals : List (List CType)) (frames : List Shape) (registers : List C
   first_keeps (Some (type.Array' p t m)) e x h n = false_is_not_true (right_of_and (is_null e) false h)
   first_keeps (Some (type.Struct m)) e x h n = false_is_not_true (right_of_and (is_null e) false h)
 
-  pub keeps_choice : (e f : Expr) (a b : Option CType) (d x y : Direct Value) → K Always d → Typed globals frames registers a x → Typed globals frames registers b y → NullKeeps e x → NullKeeps f y → Typed globals frames registers (choice_type e a f b) (direct.bind d (λ v. cond (truth v) x y))
+  pub keeps_choice : (e f : Expr) (a b : Option CType) (d x y : Direct Value) → K Always d → Typed q frames registers a x → Typed q frames registers b y → NullKeeps e x → NullKeeps f y → Typed q frames registers (choice_type e a f b) (direct.bind d (λ v. cond (truth v) x y))
   keeps_choice e f a b d x y h i j n m = by (are_of_one_kind a b || (are_of_one_pointer a b || (are_void a b || is_pointer_beside_null f a))) refl (is_pointer_beside_null e b) refl
     where
       pair : (t : CType) → K (OfType t) x → K (OfType t) y → K (OfType t) (direct.bind d (λ v. cond (truth v) x y))
       pair t k l = keeps_bind h (λ v g. keeps_cond (truth v) k l)
 
-      both : (o : Option CType) → Typed globals frames registers o x → Typed globals frames registers o y → Typed globals frames registers o (direct.bind d (λ v. cond (truth v) x y))
+      both : (o : Option CType) → Typed q frames registers o x → Typed q frames registers o y → Typed q frames registers o (direct.bind d (λ v. cond (truth v) x y))
       both None k l = tt
       both (Some t) k l = pair t k l
 
-      by : (c : Bool) → (are_of_one_kind a b || (are_of_one_pointer a b || (are_void a b || is_pointer_beside_null f a))) ≡ c → (g : Bool) → is_pointer_beside_null e b ≡ g → Typed globals frames registers (cond c a (cond g b None)) (direct.bind d (λ v. cond (truth v) x y))
+      by : (c : Bool) → (are_of_one_kind a b || (are_of_one_pointer a b || (are_void a b || is_pointer_beside_null f a))) ≡ c → (g : Bool) → is_pointer_beside_null e b ≡ g → Typed q frames registers (cond c a (cond g b None)) (direct.bind d (λ v. cond (truth v) x y))
       by true p g r = both a i (second_keeps a b f y p j m)
       by false p true r = both b (first_keeps b e x r n) j
       by false p false r = tt
 
   -- ---- assignments
 
-  pub taken_keeps : (t : CType) (e : Expr) (a : Option CType) (x : Direct Value) → is_taken_by t e a ≡ true → Typed globals frames registers a x → NullKeeps e x → K (InCell t) x
+  pub taken_keeps : (t : CType) (e : Expr) (a : Option CType) (x : Direct Value) → is_taken_by t e a ≡ true → Typed q frames registers a x → NullKeeps e x → K (InCell t) x
   taken_keeps t e a x h k n =
-      either_true (has_this_type t a) _ (right_of_and _ _ h) (λ g. this_keeps globals frames registers here t a x (left_of_and _ _ h) g k) (λ g. null t (right_of_and (is_null e) _ g) (left_of_and (is_null e) _ g))
+      either_true (has_this_type t a) _ (right_of_and _ _ h) (λ g. this_keeps q frames registers here t a x (left_of_and _ _ h) g k) (λ g. null t (right_of_and (is_null e) _ g) (left_of_and (is_null e) _ g))
     where
       null : (t : CType) → has_pointer_type (Some t) ≡ true → is_null e ≡ true → K (InCell t) x
       null (type.Pointer' p u) g l = n l p u
@@ -113,17 +115,21 @@ module _ (globals : List (List CType)) (frames : List Shape) (registers : List C
   abbrev pub PlaceTyped : Bool → Option CType → Direct Lvalue → Type 0
   PlaceTyped own o d = WhereSome (λ t. K (Designates own t) d) o
 
-  some_place : (own : Bool) (o : Option CType) (d : Direct Lvalue) → is_some o ≡ true → PlaceTyped own o d → K Always d
+  designates_place : (own : Bool) (t : CType) (l : Lvalue) → Designates own t l → IsPlace l
+  designates_place own t (InRegister i) h = tt
+  designates_place own t (At v) h = h
+
+  some_place : (own : Bool) (o : Option CType) (d : Direct Lvalue) → is_some o ≡ true → PlaceTyped own o d → K IsPlace d
   some_place own None d e h = false_is_not_true e
-  some_place own (Some t) d e h = keeps_weaker (λ l g. tt) h
+  some_place own (Some t) d e h = keeps_weaker (designates_place own t) h
 
   pub keeps_read : (own : Bool) (t : CType) (o : Option CType) (d : Direct Lvalue) → (is_scalar t && has_this_type t o) ≡ true → PlaceTyped own o d → K (OfType t) (direct.bind d (acc.load direct here t))
-  keeps_read own t o d e h = keeps_bind (some_place own o d (this_is_some globals frames registers here t o (right_of_and _ _ e)) h) (λ l g. keeps_weaker (of_cell t) (keeps_load here t l))
+  keeps_read own t o d e h = keeps_bind (some_place own o d (this_is_some q frames registers here t o (right_of_and _ _ e)) h) (λ l g. keeps_weaker (of_cell t) (keeps_load here t l g))
 
-  pub keeps_assign : (own : Bool) (t : CType) (e : Expr) (o a : Option CType) (d : Direct Lvalue) (x : Direct Value) → (has_this_type t o && is_taken_by t e a) ≡ true → PlaceTyped own o d → Typed globals frames registers a x → NullKeeps e x → K (OfType t) (direct.bind d (λ l. direct.bind x (acc.store direct here t l)))
+  pub keeps_assign : (own : Bool) (t : CType) (e : Expr) (o a : Option CType) (d : Direct Lvalue) (x : Direct Value) → (has_this_type t o && is_taken_by t e a) ≡ true → PlaceTyped own o d → Typed q frames registers a x → NullKeeps e x → K (OfType t) (direct.bind d (λ l. direct.bind x (acc.store direct here t l)))
   keeps_assign own t e o a d x c h k n =
-      keeps_bind (some_place own o d (this_is_some globals frames registers here t o (left_of_and _ _ c)) h) (λ l g.
-      keeps_bind (taken_keeps t e a x (right_of_and _ _ c) k n) (λ v i. keeps_weaker (of_cell t) (keeps_store here t l v i)))
+      keeps_bind (some_place own o d (this_is_some q frames registers here t o (left_of_and _ _ c)) h) (λ l g.
+      keeps_bind (taken_keeps t e a x (right_of_and _ _ c) k n) (λ v i. keeps_weaker (of_cell t) (keeps_store here t l v g i)))
 
   updated_keeps : (layouts : List Layout) (t : CType) (u : UpdateOp) (a : Option CType) (old v : Value) → is_operation layouts t u a ≡ true → InCell t old → K (InCell t) (acc.updated direct here t u old v)
   updated_keeps layouts (type.Int l) (Integer o k) a old v e h =
@@ -178,13 +184,13 @@ module _ (globals : List (List CType)) (frames : List Shape) (registers : List C
   answer_fits t Before old new h k = of_cell t old h
   answer_fits t After old new h k = of_cell t new k
 
-  pub keeps_update : (layouts : List Layout) (own : Bool) (t : CType) (u : UpdateOp) (w : Answer) (m : Bool) (o a : Option CType) (d : Direct Lvalue) (x : Direct Value) → (has_this_type t o && (is_operation layouts t u a && m)) ≡ true → PlaceTyped own o d → Typed globals frames registers a x → K (OfType t) (direct.bind d (λ l. direct.bind (acc.load direct here t l) (λ old. direct.bind x (λ v. direct.bind (acc.updated direct here t u old v) (λ new. direct.bind (acc.store direct here t l new) (λ written. direct.pure (answer w old new)))))))
+  pub keeps_update : (layouts : List Layout) (own : Bool) (t : CType) (u : UpdateOp) (w : Answer) (m : Bool) (o a : Option CType) (d : Direct Lvalue) (x : Direct Value) → (has_this_type t o && (is_operation layouts t u a && m)) ≡ true → PlaceTyped own o d → Typed q frames registers a x → K (OfType t) (direct.bind d (λ l. direct.bind (acc.load direct here t l) (λ old. direct.bind x (λ v. direct.bind (acc.updated direct here t u old v) (λ new. direct.bind (acc.store direct here t l new) (λ written. direct.pure (answer w old new)))))))
   keeps_update layouts own t u w m o a d x c h k =
-      keeps_bind (some_place own o d (this_is_some globals frames registers here t o (left_of_and _ _ c)) h) (λ l g.
-      keeps_bind (keeps_load here t l) (λ old i.
-      keeps_bind (some_keeps globals frames registers here a x (operand_is_some layouts t u a (left_of_and _ _ (right_of_and _ _ c))) k) (λ v g.
+      keeps_bind (some_place own o d (this_is_some q frames registers here t o (left_of_and _ _ c)) h) (λ l g.
+      keeps_bind (keeps_load here t l g) (λ old i.
+      keeps_bind (some_keeps q frames registers here a x (operand_is_some layouts t u a (left_of_and _ _ (right_of_and _ _ c))) k) (λ v b.
       keeps_bind (updated_keeps layouts t u a old v (left_of_and _ _ (right_of_and _ _ c)) i) (λ new j.
-      keeps_bind (keeps_store here t l new j) (λ written g. keeps_pure (answer w old new) (answer_fits t w old new i j))))))
+      keeps_bind (keeps_store here t l new g j) (λ written b. keeps_pure (answer w old new) (answer_fits t w old new i j))))))
 
   -- ---- addresses and lvalues
 
@@ -209,7 +215,7 @@ module _ (globals : List (List CType)) (frames : List Shape) (registers : List C
   anywhere own t (InRegister i) h = false_is_not_true h.0
   anywhere own t (At v) h = h
 
-  pub keeps_deref : (a : Option CType) (x : Direct Value) → Typed globals frames registers a x → PlaceTyped false (pointed_to a) (direct.bind x (λ p. direct.pure (At p)))
+  pub keeps_deref : (a : Option CType) (x : Direct Value) → Typed q frames registers a x → PlaceTyped false (pointed_to a) (direct.bind x (λ p. direct.pure (At p)))
   keeps_deref (Some (type.Pointer' p (more_of-CType t end_of-CType))) x h = where_true_fits _ (not (is_void t)) t (λ e. keeps_bind h (λ v g. keeps_pure (At v) (address_of_type p (more_of-CType t end_of-CType) v g)))
   keeps_deref None x h = tt
   keeps_deref (Some type.Void) x h = tt
@@ -225,11 +231,11 @@ module _ (globals : List (List CType)) (frames : List Shape) (registers : List C
   keeps_member layouts own o (Some (type.Pointer' p t)) d h = tt
   keeps_member layouts own o (Some (type.Array' p t n)) d h = tt
 
-  pub keeps_element : (layouts : List Layout) (own : Bool) (size : ℕ) (a b : Option CType) (d : Direct Lvalue) (x : Direct Value) → PlaceTyped own a d → Typed globals frames registers b x → PlaceTyped false (element_type layouts size a b) (direct.bind d (λ l. direct.bind x (λ i. acc.object_after direct here l (integer i *ℤ pos size))))
+  pub keeps_element : (layouts : List Layout) (own : Bool) (size : ℕ) (a b : Option CType) (d : Direct Lvalue) (x : Direct Value) → PlaceTyped own a d → Typed q frames registers b x → PlaceTyped false (element_type layouts size a b) (direct.bind d (λ l. direct.bind x (λ i. acc.object_after direct here l (integer i *ℤ pos size))))
   keeps_element layouts own size (Some (type.Array' p (more_of-CType t end_of-CType) n)) b d x h k =
       where_true_fits _ (size == cells layouts t && has_integer_type b) t (λ e.
       keeps_bind h (λ l g.
-      keeps_bind (some_keeps globals frames registers here b x (integer_is_some globals frames registers here b (right_of_and _ _ e)) k) (λ v j.
+      keeps_bind (some_keeps q frames registers here b x (integer_is_some q frames registers here b (right_of_and _ _ e)) k) (λ v j.
       keeps_weaker (anywhere false t) (after_keeps own (type.Array' p (more_of-CType t end_of-CType) n) l (integer v *ℤ pos size) refl g))))
   keeps_element layouts own size None b d x h k = tt
   keeps_element layouts own size (Some type.Void) b d x h k = tt

@@ -16,11 +16,11 @@ use Rattle.step_meaning.specs.declared.program.Function.{Function}
 use Rattle.step_meaning.specs.declared.program.Core.{Core}
 use Rattle.step_meaning.specs.Names.{same_kind}
 use Rattle.step_meaning.specs.Types.{same_type, object_cells}
-use Rattle.step_meaning.specs.Memory.{Slot, filled}
-use Rattle.step_meaning.specs.Steps.{Item, End, Exit, Fault, More, Trace, Stop, Then}
+use Rattle.step_meaning.specs.Memory.{Slot, Block, empty_block, filled}
+use Rattle.step_meaning.specs.Steps.{Item, Made, Judged, End, Exit, Fault, More, Trace, Stop, Then, steps}
 use Rattle.step_meaning.specs.Flow.{direct, DirectCall, CallGives, Returned, Ended}
 use Rattle.step_meaning.specs.Calls as ca
-use Rattle.step_meaning.specs.Runs.{global_blocks, start_memory, start_state, start_world, logged_by, direct_run, after_log, trace_of}
+use Rattle.step_meaning.specs.Runs.{run, global_blocks, start_memory, start_state, start_world, logged_by, direct_run, after_log, trace_of}
 use Rattle.step_meaning.specs.TypeRules.{cells, keeps_rules}
 use Rattle.step_meaning.specs.ExpressionTypes.{has_body, parameter_types}
 use Rattle.step_meaning.specs.StatementRules.{BodyFits}
@@ -30,17 +30,16 @@ use Rattle.step_meaning.specs.FaultsHalt.{FaultsHalt, WellFormedFaultsHalt}
 use Rattle.step_meaning.specs.Traced.{SlotTyped, is_program_kind, cells_declared}
 use Rattle.step_meaning.proofs.Flows.{run_logged}
 use Rattle.step_meaning.proofs.Ranges.{false_is_not_true, left_of_and, right_of_and}
-use Rattle.step_meaning.proofs.TypedMemory.{Each, WhereSome, get_fits, InCell, has_same_type, same_type_turned, BlockFits, Shape, MemoryFits}
-use Rattle.step_meaning.proofs.TypedOperators.{OfType}
-use Rattle.step_meaning.proofs.TypedExpressions.{InCells}
-use Rattle.step_meaning.proofs.TypedStatements.{ReturnFits}
+use Rattle.step_meaning.proofs.TypedMemory.{Each, WhereSome, is_empty, get_fits, InCell, has_same_type, same_type_turned, number_same, BlockFits, Shape, MemoryFits}
+use Rattle.step_meaning.proofs.StepsFit.{InCells, ReturnFits, global_cells, StepFits, ItemFits}
+use Rattle.step_meaning.proofs.TypedOperators.{OfType, not_true}
 use Rattle.step_meaning.proofs.TypedCalls.{SizesFit, AllCallsKeep, keeps_activation}
 use Rattle.step_meaning.proofs.TypedSizes.{sizes_fit}
 use Rattle.step_meaning.proofs.Kept.{EndsWell, CallGivesFit, CallKeeps}
 
 -- ---- calls
 
-some_fits : {A : Type 0} (P : A → Type 0) (o : Option A) (a : A) → o ≡ Some a → WhereSome P o → P a
+pub some_fits : {A : Type 0} (P : A → Type 0) (o : Option A) (a : A) → o ≡ Some a → WhereSome P o → P a
 some_fits P o a e h = subst (WhereSome P) e h
 
 int_returned : (t : CType) → same_type t int ≡ true → ReturnFits t (Some (value.Int (pos 0)))
@@ -56,7 +55,7 @@ int_returned (type.Array' b t n) e = false_is_not_true (no b t e)
     no b (more_of-CType t end_of-CType) e = e
 int_returned (type.Struct n) e = false_is_not_true e
 
-module _ (q : Core) (h : IsWellFormed q) (globals : List (List CType)) (bound : ℕ) where
+module _ (q : Core) (h : IsWellFormed q) (bound : ℕ) where
   sizes : SizesFit q.layouts
   sizes = sizes_fit q.layouts h.structs
 
@@ -66,25 +65,25 @@ module _ (q : Core) (h : IsWellFormed q) (globals : List (List CType)) (bound : 
       is : is_main (Some fn) ≡ true
       is = subst (λ o. is_main o ≡ true) (ap (slice_get q.functions) (sym (eqb-true g q.start s)) ∙ e) h.main
 
-  keeps_body : (call : ℕ → List Value → DirectCall) → AllCallsKeep q globals bound sizes call → (frames : List Shape) (g : ℕ) (fn : Function) → slice_get q.functions g ≡ Some fn → (body : Option (List Stmt)) → OfBody (BodyFits q fn) body → is_some body ≡ true → (vs : List Value) → InCells (parameter_types fn) vs → CallKeeps globals frames (OfType fn.result) (ca.call_body direct q bound call g fn body vs)
-  keeps_body call calls frames g fn e None b has vs a = false_is_not_true has
-  keeps_body call calls frames g fn e (Some body) b has vs a = keeps_activation q globals bound sizes call calls frames g fn body vs (some_fits (IsWellFormedFunction q) (slice_get q.functions g) fn e (get_fits (IsWellFormedFunction q) q.functions g h.functions)) b (main_int g fn e) a
+  keeps_body : (call : ℕ → List Value → DirectCall) → AllCallsKeep q bound sizes call → (frames : List Shape) (g : ℕ) (fn : Function) → slice_get q.functions g ≡ Some fn → (g == q.start) ≡ is_empty frames → (body : Option (List Stmt)) → OfBody (BodyFits q fn) body → is_some body ≡ true → (vs : List Value) → InCells (parameter_types fn) vs → CallKeeps q frames (OfType fn.result) (ca.call_body direct q bound call g fn body vs)
+  keeps_body call calls frames g fn e o None b has vs a = false_is_not_true has
+  keeps_body call calls frames g fn e o (Some body) b has vs a = keeps_activation q bound sizes call calls frames g fn e o body vs (some_fits (IsWellFormedFunction q) (slice_get q.functions g) fn e (get_fits (IsWellFormedFunction q) q.functions g h.functions)) b (main_int g fn e) a
 
-  called_fits : (P : Function → Type 0) (g : ℕ) (o : Option Function) → slice_get q.functions g ≡ o → ((fn : Function) → slice_get q.functions g ≡ Some fn → has_body fn ≡ true → P fn) → WhereSome P (option_and_then (λ f. cond (has_body f && not (g == q.start)) (Some f) None) o)
+  called_fits : (P : Function → Type 0) (g : ℕ) (o : Option Function) → slice_get q.functions g ≡ o → ((fn : Function) → slice_get q.functions g ≡ Some fn → has_body fn ≡ true → (g == q.start) ≡ false → P fn) → WhereSome P (option_and_then (λ f. cond (has_body f && not (g == q.start)) (Some f) None) o)
   called_fits P g None e k = tt
   called_fits P g (Some fn) e k = by (has_body fn && not (g == q.start)) refl
     where
       by : (c : Bool) → (has_body fn && not (g == q.start)) ≡ c → WhereSome P (cond c (Some fn) None)
-      by true p = k fn e (left_of_and _ _ p)
+      by true p = k fn e (left_of_and _ _ p) (not_true (g == q.start) (right_of_and _ _ p))
       by false p = tt
 
-  keeps_calls : (n : ℕ) (frames : List Shape) (g : ℕ) (fn : Function) → slice_get q.functions g ≡ Some fn → has_body fn ≡ true → (vs : List Value) → InCells (parameter_types fn) vs → CallKeeps globals frames (OfType fn.result) (ca.calls direct q bound n g vs)
-  keeps_calls zero frames g fn e b vs a = record { by = λ w m. tt }
-  keeps_calls (suc n) frames g fn e b vs a =
-      subst (λ o. CallKeeps globals frames (OfType fn.result) (ca.call_of direct q bound (ca.calls direct q bound n) g o vs)) (sym e)
+  keeps_calls : (n : ℕ) (frames : List Shape) (g : ℕ) (fn : Function) → slice_get q.functions g ≡ Some fn → (g == q.start) ≡ is_empty frames → has_body fn ≡ true → (vs : List Value) → InCells (parameter_types fn) vs → CallKeeps q frames (OfType fn.result) (ca.calls direct q bound n g vs)
+  keeps_calls zero frames g fn e o b vs a = record { by = λ w m. (tt, m.1) }
+  keeps_calls (suc n) frames g fn e o b vs a =
+      subst (λ o. CallKeeps q frames (OfType fn.result) (ca.call_of direct q bound (ca.calls direct q bound n) g o vs)) (sym e)
       (keeps_body (ca.calls direct q bound n)
-      (λ frames g. called_fits (λ fn. (vs : List Value) → InCells (parameter_types fn) vs → CallKeeps globals frames (OfType fn.result) (ca.calls direct q bound n g vs)) g (slice_get q.functions g) refl (λ fn e b vs a. keeps_calls n frames g fn e b vs a))
-      frames g fn e fn.body (some_fits (IsWellFormedFunction q) (slice_get q.functions g) fn e (get_fits (IsWellFormedFunction q) q.functions g h.functions)).body b vs a)
+      (λ s frames g. called_fits (λ fn. (vs : List Value) → InCells (parameter_types fn) vs → CallKeeps q (s ∷ frames) (OfType fn.result) (ca.calls direct q bound n g vs)) g (slice_get q.functions g) refl (λ fn e b o vs a. keeps_calls n (s ∷ frames) g fn e o b vs a))
+      frames g fn e o fn.body (some_fits (IsWellFormedFunction q) (slice_get q.functions g) fn e (get_fits (IsWellFormedFunction q) q.functions g h.functions)).body b vs a)
 
 -- ---- the start
 
@@ -135,8 +134,18 @@ module _ (q : Core) (h : IsWellFormed q) where
   blocks_fit i (d ∷ ds) (vs ∷ vss) k e =
       ((filled_fits i (object_cells q.layouts d.ctype) vs (left_of_and _ _ e), rw (filled_length (object_cells q.layouts d.ctype) vs) (sizes_fit q.layouts h.structs d.ctype (left_of_and _ _ k))), blocks_fit (suc i) ds vss (right_of_and _ _ k) (right_of_and _ _ e))
 
-  start_fits : MemoryFits (map cells_declared (start_memory q).globals) [] (start_memory q)
-  start_fits = record { globals_declared = refl; frames_declared = refl; globals_fit = blocks_fit 0 q.globals q.initial h.globals h.initial; locals_fit = tt }
+  filled_declared : (b : Block) (vs : List Value) → cells_declared (filled b vs) ≡ cells_declared b
+  filled_declared [] vs = refl
+  filled_declared (s ∷ b) [] = refl
+  filled_declared (s ∷ b) (v ∷ vs) = ap (λ ts. s.declared ∷ ts) (filled_declared b vs)
+
+  globals_declared : (ds : List Declared) (vss : List (List Value)) → map cells_declared (global_blocks q.layouts ds vss) ≡ map (λ d. cells_declared (empty_block q.layouts d)) ds
+  globals_declared [] vss = refl
+  globals_declared (d ∷ ds) [] = ap (λ ts. cells_declared (empty_block q.layouts d) ∷ ts) (globals_declared ds [])
+  globals_declared (d ∷ ds) (vs ∷ vss) = ap (λ ts. ts ∷ map cells_declared (global_blocks q.layouts ds vss)) (filled_declared (empty_block q.layouts d) vs) ∙ ap (λ ts. cells_declared (empty_block q.layouts d) ∷ ts) (globals_declared ds vss)
+
+  start_fits : MemoryFits (global_cells q) [] (start_memory q)
+  start_fits = record { globals_declared = globals_declared q.globals q.initial; frames_declared = refl; globals_fit = blocks_fit 0 q.globals q.initial h.globals h.initial; locals_fit = tt }
 
 -- ---- the run
 
@@ -155,26 +164,45 @@ exits : (z : ℤ) (l : List Item) → FaultsHalt (after_log l (Stop (Exit z)))
 exits z [] = tt
 exits z (i ∷ l) = after_items l i (Stop (Exit z)) tt
 
-ran_well : (globals : List (List CType)) (frames : List Shape) (t : CType) (o : CallGives) → same_type t int ≡ true → CallGivesFit globals frames (OfType t) o → FaultsHalt (trace_of (logged_by o))
-ran_well globals frames t (Ended e l) s h = ended_well e l h
-ran_well globals frames (type.Int k) (Returned (value.Int z) w) s h = exits z w.log
-ran_well globals frames (type.Int k) (Returned value.Null w) s h = absurd h.0.0
-ran_well globals frames (type.Int k) (Returned (value.Pointer n o) w) s h = absurd h.0.0
-ran_well globals frames type.Void (Returned v w) s h = false_is_not_true s
-ran_well globals frames (type.Struct n) (Returned v w) s h = false_is_not_true s
-ran_well globals frames (type.Pointer' p (more_of-CType t end_of-CType)) (Returned v w) s h = false_is_not_true s
-ran_well globals frames (type.Array' p (more_of-CType t end_of-CType) n) (Returned v w) s h = false_is_not_true s
+ran_well : (q : Core) (frames : List Shape) (t : CType) (o : CallGives) → same_type t int ≡ true → CallGivesFit q frames (OfType t) o → FaultsHalt (trace_of (logged_by o))
+ran_well q frames t (Ended e l) s h = ended_well e l h.0
+ran_well q frames (type.Int k) (Returned (value.Int z) w) s h = exits z w.log
+ran_well q frames (type.Int k) (Returned value.Null w) s h = absurd h.0.0
+ran_well q frames (type.Int k) (Returned (value.Pointer n o) w) s h = absurd h.0.0
+ran_well q frames type.Void (Returned v w) s h = false_is_not_true s
+ran_well q frames (type.Struct n) (Returned v w) s h = false_is_not_true s
+ran_well q frames (type.Pointer' p (more_of-CType t end_of-CType)) (Returned v w) s h = false_is_not_true s
+ran_well q frames (type.Array' p (more_of-CType t end_of-CType) n) (Returned v w) s h = false_is_not_true s
+
+-- the items of a part that is known to keep types
+log_fits : (q : Core) (frames : List Shape) (P : Value → Type 0) (o : CallGives) → CallGivesFit q frames P o → Each (ItemFits q) (logged_by o).log
+log_fits q frames P (Returned v w) h = h.1.1
+log_fits q frames P (Ended e l) h = h.1
+
+steps_fit : (q : Core) (l : List Item) (t : Trace) → Each (ItemFits q) l → Each (StepFits q) (steps t) → Each (StepFits q) (steps (after_log l t))
+steps_fit q [] t h k = k
+steps_fit q (Made s ∷ l) t h k = steps_fit q l (Then (Made s) t) h.1 (h.0, k)
+steps_fit q (Judged v ∷ l) t h k = steps_fit q l (Then (Judged v) t) h.1 k
+
+module _ (q : Core) (h : IsWellFormed q) (input : List ℕ) (k : ℕ) where
+  -- the program has `main`, which gives back an integer
+  main_keeps : (fn : Function) × (same_type fn.result int ≡ true) × CallGivesFit q [] (OfType fn.result) (ca.calls direct q k k q.start [] (start_world (start_state q input)))
+  main_keeps = by (slice_get q.functions q.start) refl h.main
+    where
+      no_parameters : (fn : Function) → (fn.params == 0) ≡ true → InCells (parameter_types fn) []
+      no_parameters fn e = subst (λ n. InCells (map (λ d. d.ctype) (take n fn.locals)) []) (sym (eqb-true fn.params 0 e)) tt
+
+      by : (o : Option Function) → slice_get q.functions q.start ≡ o → is_main o ≡ true → (fn : Function) × (same_type fn.result int ≡ true) × CallGivesFit q [] (OfType fn.result) (ca.calls direct q k k q.start [] (start_world (start_state q input)))
+      by None e m = false_is_not_true m
+      by (Some fn) e m = (
+        fn,
+        left_of_and _ _ (right_of_and _ _ (left_of_and _ _ m)),
+        (keeps_calls q h k k [] q.start fn e (number_same q.start) (right_of_and _ _ m) [] (no_parameters fn (left_of_and _ _ (right_of_and _ _ (right_of_and _ _ (left_of_and _ _ m)))))).by (start_world (start_state q input)) (start_fits q h, tt),
+      )
 
 pub well_formed_faults_halt : WellFormedFaultsHalt
-well_formed_faults_halt q h input k = rw (run_logged q input k) (by (slice_get q.functions q.start) refl h.main)
-  where
-    globals : List (List CType)
-    globals = map cells_declared (start_memory q).globals
+well_formed_faults_halt q h input k = let m = main_keeps q h input k in rw (run_logged q input k) (ran_well q [] m.0.result (ca.calls direct q k k q.start [] (start_world (start_state q input))) m.1 m.2)
 
-    no_parameters : (fn : Function) → (fn.params == 0) ≡ true → InCells (parameter_types fn) []
-    no_parameters fn e = subst (λ n. InCells (map (λ d. d.ctype) (take n fn.locals)) []) (sym (eqb-true fn.params 0 e)) tt
-
-    by : (o : Option Function) → slice_get q.functions q.start ≡ o → is_main o ≡ true → FaultsHalt (trace_of (direct_run q input k))
-    by None e m = false_is_not_true m
-    by (Some fn) e m = ran_well globals [] fn.result (ca.calls direct q k k q.start [] (start_world (start_state q input))) (left_of_and _ _ (right_of_and _ _ (left_of_and _ _ m)))
-        ((keeps_calls q h globals k k [] q.start fn e (right_of_and _ _ m) [] (no_parameters fn (left_of_and _ _ (right_of_and _ _ (right_of_and _ _ (left_of_and _ _ m)))))).by (start_world (start_state q input)) (start_fits q h))
+-- each step of a run of a well-formed program fits
+pub run_steps_fit : (q : Core) → IsWellFormed q → (input : List ℕ) (k : ℕ) → Each (StepFits q) (steps (run q input k))
+run_steps_fit q h input k = let m = main_keeps q h input k in rw (run_logged q input k) (steps_fit q (direct_run q input k).log (Stop (direct_run q input k).ends) (log_fits q [] (OfType m.0.result) (ca.calls direct q k k q.start [] (start_world (start_state q input))) m.2) tt)

@@ -21,6 +21,7 @@ pub mod Erasure
 pub mod StepViews
 pub mod Bounded
 pub mod Traced
+pub mod TracedRuns
 pub mod Conversions
 pub mod TypeRules
 pub mod ExpressionTypes
