@@ -3,6 +3,7 @@ ghost use Rattle.step_meaning.specs.First.{SameFirstSteps};
 ghost use Rattle.step_meaning.specs.FitsBounded.{FitsBounded, TracedSightsTyped};
 ghost use Rattle.step_meaning.specs.Limits.{OutcomeComputed};
 ghost use Rattle.step_meaning.specs.Runs.{FlowsAgree};
+ghost use Rattle.step_meaning.specs.TracedRuns.{WellFormedTraced};
 
 /// Larger bounds give the same first steps of a run, with the verdicts before each.
 pub fn same_first_steps()
@@ -33,4 +34,9 @@ pub fn fits_bounded()
 /// Each step of a traced list gives such a view.
 pub fn traced_sights_typed()
     ensures { TracedSightsTyped }
+{}
+
+/// The steps of a run of a well-formed program, on any input and for any bound, are a traced list.
+pub fn runs_are_traced()
+    ensures { WellFormedTraced }
 {}
