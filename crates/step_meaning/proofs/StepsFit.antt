@@ -12,7 +12,8 @@ use Rattle.step_meaning.specs.declared.program.Function.{Function}
 use Rattle.step_meaning.specs.Memory.{Frame, empty_block}
 use Rattle.step_meaning.specs.Steps.{Step, Item, Made, Judged}
 use Rattle.step_meaning.specs.ExpressionTypes.{parameter_types}
-use Rattle.step_meaning.specs.Traced.{is_program_kind, cells_declared, HoldArguments}
+use Rattle.step_meaning.specs.Traced.{is_program_kind, HoldArguments}
+use Rattle.step_meaning.specs.TracedRuns.{cells_declared}
 use Rattle.step_meaning.proofs.TypedMemory.{Each, is_empty, InCell, BlockFits, FrameFits}
 
 -- ---- values

@@ -1,7 +1,8 @@
 -- The steps of a run of a well-formed program are traced: each step fits, and the steps nest as calls do.
-use Rattle.std.proofs.Common.{◌≡◌, ◌≢◌, ◌==◌, ℕ, suc, ◌<◌, Bool, true, false, cond, List, [], ◌∷◌, map, drop, Option, Some, None, All, refl, sym, ap, subst, ◌∙◌, ⊎_elim, ne_eqb, arith}
+use Rattle.std.proofs.Common.{◌≡◌, ◌≢◌, ◌==◌, ℕ, suc, ◌<◌, Bool, true, false, cond, List, [], ◌∷◌, map, length, drop, Option, Some, None, All, refl, sym, ap, subst, ◌∙◌, ⊎_elim, ne_eqb, arith}
 use Rattle.std.specs.Prelude.{◌↔◌, slice_get, IsTrue, AllPairs}
 use Rattle.std.proofs.lemmas.Bool.{eqb-true}
+use Rattle.std.proofs.lemmas.List.{length-map}
 use Rattle.std.proofs.lemmas.List.Elements.{All-nil, All-cons, All-from_recursion}
 use Rattle.std.proofs.lemmas.List.Kept.{AllPairs-cons}
 use Rattle.step_meaning.specs.declared.value.CType.{CType}
@@ -12,17 +13,17 @@ use Rattle.step_meaning.specs.declared.value.Action.{Action}
 use Rattle.step_meaning.specs.declared.value.Action.TheVariants as act
 use Rattle.step_meaning.specs.declared.program.Core.{Core}
 use Rattle.step_meaning.specs.declared.program.Function.{Function}
-use Rattle.step_meaning.specs.Memory.{Frame, Block, frame_of}
+use Rattle.step_meaning.specs.Memory.{Memory, Frame, Block, empty_block, frame_of}
 use Rattle.step_meaning.specs.Steps.{Step, steps}
 use Rattle.step_meaning.specs.State.{Here}
 use Rattle.step_meaning.specs.Runs.{run}
 use Rattle.step_meaning.specs.Limits.{is_enter}
 use Rattle.step_meaning.specs.ExpressionTypes.{parameter_types}
-use Rattle.step_meaning.specs.Traced.{PointsIntoProgram, IsPointer, HaveTypes, SlotTyped, BlocksTyped, NamesOwn, PointsOnlyIntoProgram, AccessesPointer, IsFunctionOf, ResultHasType, ActionHasTypes, ParametersHold, IsStepOf, At, IsTraced}
-use Rattle.step_meaning.specs.TracedRuns.{WellFormedTraced}
+use Rattle.step_meaning.specs.Traced.{PointsIntoProgram, IsPointer, HaveTypes, SlotTyped, BlocksTyped, NamesOwn, PointsOnlyIntoProgram, AccessesPointer, IsFunctionOf, ResultHasType, ActionHasTypes, HoldArguments, ParametersHold, IsStepOf, At, IsTraced}
+use Rattle.step_meaning.specs.TracedRuns.{cells_declared, EachHasVariables, WellFormedTraced}
 use Rattle.step_meaning.proofs.Ranges.{false_is_not_true}
 use Rattle.step_meaning.proofs.TypedMemory.{Each, get_fits, is_empty, is_empty_map, drop_map, number_same, BlockFits, FrameFits}
-use Rattle.step_meaning.proofs.StepsFit.{IsAddress, InCells, ReturnFits, ActionFits, StepFits}
+use Rattle.step_meaning.proofs.StepsFit.{IsAddress, InCells, InnermostHolds, ReturnFits, ActionFits, StepFits}
 use Rattle.step_meaning.proofs.TypedRuns.{some_fits, run_steps_fit}
 use Rattle.step_meaning.proofs.Nesting.{maker, numbers, frame_numbers, open_at, IsNext, Nest}
 use Rattle.step_meaning.proofs.NestingRuns.{run_nests}
@@ -176,12 +177,13 @@ has_types q frames g f found _ o h = tt
 
 -- ---- the own frame
 
-innermost_frame : (q : Core) (fs : List Frame) (n : ℕ) (ns : List ℕ) (a : Action) → map (λ f. f.activation) fs ≡ (n ∷ ns) → ActionFits q fs a → (r : Frame) × (frame_of n fs ≡ Some r) × ParametersHold a r
-innermost_frame q [] n ns a e h = absurd (no e)
+-- the innermost frame is that of the activation with the first number
+own_frame : (fs : List Frame) (n : ℕ) (ns : List ℕ) → map (λ f. f.activation) fs ≡ (n ∷ ns) → (r : Frame) × (frame_of n fs ≡ Some r) × ((vs : List Value) → InnermostHolds fs vs → HoldArguments r.locals vs)
+own_frame [] n ns e = absurd (no e)
   where
     no : [] ≡ (n ∷ ns) → ⊥
     no e = cc
-innermost_frame q (r ∷ rs) n ns a e h = (r, found (r.activation == n) (subst (λ m. (m == n) ≡ true) (sym same) (number_same n)), hold a h)
+own_frame (r ∷ rs) n ns e = (r, found (r.activation == n) (subst (λ m. (m == n) ≡ true) (sym same) (number_same n)), λ vs h. h)
   where
     head : List ℕ → ℕ
     head [] = n
@@ -194,28 +196,40 @@ innermost_frame q (r ∷ rs) n ns a e h = (r, found (r.activation == n) (subst (
     found true e = refl
     found false e = false_is_not_true e
 
-    hold : (a : Action) → ActionFits q (r ∷ rs) a → ParametersHold a r
-    hold (act.Enter g vs) h = h.hold
-    hold _ h = tt
+own_variables : (q : Core) (s : Step) → IsPlaced q s → (r : Frame) × (frame_of s.activation s.memory.frames ≡ Some r)
+own_variables q s p = let o = own_frame s.memory.frames s.activation p.innermost.0 p.innermost.1 in (o.0, o.1)
+
+parameters_hold : (q : Core) (memory : Memory) (n : ℕ) (ns : List ℕ) (a : Action) → map (λ f. f.activation) memory.frames ≡ (n ∷ ns) → ActionFits q memory.frames a → ParametersHold a n memory
+parameters_hold q memory n ns (act.Enter g vs) e h = let o = own_frame memory.frames n ns e in (o.0, o.1, o.2 vs h.hold)
+parameters_hold q memory n ns _ e h = tt
 
 -- ---- steps and runs
 
+globals_there : (q : Core) (s : Step) → StepFits q s → length s.memory.globals ≡ length q.globals
+globals_there q s h = sym (length-map s.memory.globals cells_declared) ∙ (ap length h.globals_declared ∙ length-map q.globals (λ d. cells_declared (empty_block q.layouts d)))
+
 step_of : (q : Core) (s : Step) → StepFits q s → IsPlaced q s → IsStepOf q s
 step_of q s h p = record {
-  memory = record { globals = h.globals_declared; globals_typed = blocks_typed s.memory.globals h.globals_fit; locals_typed = frames_typed s.memory.frames h.locals_fit; one_frame_each = one_frame_each s.memory.frames p.falling.0 p.falling.1 };
+  memory = record { globals = globals_there q s h; globals_typed = blocks_typed s.memory.globals h.globals_fit; locals_typed = frames_typed s.memory.frames h.locals_fit; one_frame_each = one_frame_each s.memory.frames p.falling.0 p.falling.1 };
   own_function = p.names_own;
   pointers = points_inside q s.memory.frames s.action h.action;
   accesses = accesses_pointer q s.memory.frames s.action h.action;
   executed = (p.function.0, p.function.1, has_types q s.memory.frames s.function p.function.0 p.function.1.0 s.action p.names_own h.action);
-  is_open = innermost_frame q s.memory.frames s.activation p.innermost.0 s.action p.innermost.1 h.action;
+  parameters_hold = parameters_hold q s.memory s.activation p.innermost.0 s.action p.innermost.1 h.action;
 }
 
 element : (P : Step → Type 0) (ss : List Step) → Each P ss → (i : ℕ) (s : Step) → At ss i s → P s
 element P ss h i s e = some_fits P (slice_get ss i) s e (get_fits P ss i h)
 
 pub well_formed_traced : WellFormedTraced
-well_formed_traced q h input k = by (steps (run q input k)) (run_steps_fit q h input k) (run_nests q input k)
+well_formed_traced q h input k = (by (steps (run q input k)) (run_steps_fit q h input k) (run_nests q input k), variables (steps (run q input k)) (run_steps_fit q h input k) (run_nests q input k))
   where
+    variables : (ss : List Step) → Each (StepFits q) ss → Nest q [] 0 ss → EachHasVariables q ss
+    variables ss fits nest i s e = record {
+      globals = (element (StepFits q) ss fits i s e).globals_declared;
+      own = own_variables q s (element (IsPlaced q) ss (all_placed q [] 0 ss tt nest) i s e);
+    }
+
     by : (ss : List Step) → Each (StepFits q) ss → Nest q [] 0 ss → IsTraced q ss
     by ss fits nest = let r = nested_known q [] 0 ss tt nest in record {
       each = λ i s e. step_of q s (element (StepFits q) ss fits i s e) (element (IsPlaced q) ss (all_placed q [] 0 ss tt nest) i s e);

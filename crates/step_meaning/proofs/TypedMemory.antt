@@ -18,7 +18,8 @@ use Rattle.step_meaning.specs.declared.value.Cell.TheVariants.{Nothing, Holds}
 use Rattle.step_meaning.specs.Types.{kind_number, same_type}
 use Rattle.step_meaning.specs.Memory.{Slot, Block, Frame, Memory, typed, slot_at, block, block_in, frame_of, room_at, reached, set_cell, at_block, at_frame, changed, stored}
 use Rattle.step_meaning.specs.Numbers.{is_in_range}
-use Rattle.step_meaning.specs.Traced.{HasType, CellHasType, SlotTyped, PointsIntoProgram, cells_declared}
+use Rattle.step_meaning.specs.Traced.{HasType, CellHasType, SlotTyped, PointsIntoProgram}
+use Rattle.step_meaning.specs.TracedRuns.{cells_declared}
 use Rattle.step_meaning.proofs.Ranges.{and_true, false_is_not_true, left_of_and, right_of_and}
 
 -- ---- lists and options

@@ -27,7 +27,8 @@ use Rattle.step_meaning.specs.StatementRules.{BodyFits}
 use Rattle.step_meaning.specs.InitialValues.{has_part, is_initial_value, are_initial_values, all_initialised}
 use Rattle.step_meaning.specs.WellFormed.{IsWellFormed, IsWellFormedFunction, OfBody, int, is_main}
 use Rattle.step_meaning.specs.FaultsHalt.{FaultsHalt, WellFormedFaultsHalt}
-use Rattle.step_meaning.specs.Traced.{SlotTyped, is_program_kind, cells_declared}
+use Rattle.step_meaning.specs.Traced.{SlotTyped, is_program_kind}
+use Rattle.step_meaning.specs.TracedRuns.{cells_declared}
 use Rattle.step_meaning.proofs.Flows.{run_logged}
 use Rattle.step_meaning.proofs.Ranges.{false_is_not_true, left_of_and, right_of_and}
 use Rattle.step_meaning.proofs.TypedMemory.{Each, WhereSome, is_empty, get_fits, InCell, has_same_type, same_type_turned, number_same, BlockFits, Shape, MemoryFits}

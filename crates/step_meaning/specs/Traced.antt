@@ -15,7 +15,7 @@ use Rattle.step_meaning.specs.declared.stmt.Stmt.{Stmt}
 use Rattle.step_meaning.specs.declared.program.Core.{Core}
 use Rattle.step_meaning.specs.declared.program.Function.{Function}
 use Rattle.step_meaning.specs.Numbers.{is_in_range}
-use Rattle.step_meaning.specs.Memory.{Memory, Frame, Slot, Block, empty_block, frame_of}
+use Rattle.step_meaning.specs.Memory.{Memory, Frame, Slot, Block, frame_of}
 use Rattle.step_meaning.specs.Steps.{Step}
 use Rattle.step_meaning.specs.Limits.{is_enter}
 use Rattle.step_meaning.specs.ExpressionTypes.{parameter_types}
@@ -62,12 +62,9 @@ SlotTyped s = CellHasType s.declared s.cell
 abbrev pub BlocksTyped : List Block → Type 0
 BlocksTyped bs = All (All SlotTyped) bs
 
-abbrev pub cells_declared : Block → List CType
-cells_declared b = map (λ s. s.declared) b
-
--- the variables of file scope are the core's, with its types; each cell holds nothing or a value of its type; an activation has one frame
+-- each memory has the core's variables of file scope; each cell holds nothing or a value of its declared type; an activation has one frame
 pub record IsProgramMemory (q : Core) (memory : Memory) : Type 0 where
-  pub globals : map cells_declared memory.globals ≡ map (λ d. cells_declared (empty_block q.layouts d)) q.globals
+  pub globals : length memory.globals ≡ length q.globals
   pub globals_typed : BlocksTyped memory.globals
   pub locals_typed : All (λ f. BlocksTyped f.locals) memory.frames
   pub one_frame_each : AllPairs (λ f g. f.activation ≢ g.activation) memory.frames
@@ -125,10 +122,10 @@ HoldArguments bs [] = Unit {0}
 HoldArguments [] (v ∷ vs) = ⊥
 HoldArguments (b ∷ bs) (v ∷ vs) = (map (λ s. s.cell) b ≡ (Holds v ∷ [])) × HoldArguments bs vs
 
--- the memory of an Enter holds the arguments in the parameters
-abbrev pub ParametersHold : Action → Frame → Type 0
-ParametersHold (act.Enter g vs) r = HoldArguments r.locals vs
-ParametersHold _ r = Unit {0}
+-- the memory of an Enter has the new activation's variables, and holds the arguments in the parameters
+abbrev pub ParametersHold : Action → ℕ → Memory → Type 0
+ParametersHold (act.Enter g vs) a memory = (r : Frame) × (frame_of a memory.frames ≡ Some r) × HoldArguments r.locals vs
+ParametersHold _ a memory = Unit {0}
 
 -- ---- steps
 
@@ -139,8 +136,8 @@ pub record IsStepOf (q : Core) (s : Step) : Type 0 where
   pub pointers : PointsOnlyIntoProgram s.action
   pub accesses : AccessesPointer s.action
   pub executed : (f : Function) × IsFunctionOf q s.function f × ActionHasTypes f s.action
-  -- the step's own activation is open
-  pub is_open : (r : Frame) × (frame_of s.activation s.memory.frames ≡ Some r) × ParametersHold s.action r
+  -- of other steps than an Enter it isn't asked that the memory has the activation's variables
+  pub parameters_hold : ParametersHold s.action s.activation s.memory
 
 abbrev pub At : List Step → ℕ → Step → Type 0
 At ss i s = slice_get ss i ≡ Some s

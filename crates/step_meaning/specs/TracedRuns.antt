@@ -1,11 +1,26 @@
 -- The steps of a run of a well-formed program are traced: what is said of all traced lists of steps is said of each run, up to each bound.
 -- Ghost code and assertions make no step, and ghost variables stand apart from the memory, so the steps are those of the program's own code.
-use Rattle.std.specs.Prelude.{ℕ, List}
+use Rattle.std.specs.Prelude.{◌≡◌, ℕ, List, map, Some}
+use Rattle.step_meaning.specs.declared.value.CType.{CType}
 use Rattle.step_meaning.specs.declared.program.Core.{Core}
-use Rattle.step_meaning.specs.Steps.{steps}
+use Rattle.step_meaning.specs.Memory.{Block, Frame, empty_block, frame_of}
+use Rattle.step_meaning.specs.Steps.{Step, steps}
 use Rattle.step_meaning.specs.Runs.{run}
 use Rattle.step_meaning.specs.WellFormed.{IsWellFormed}
-use Rattle.step_meaning.specs.Traced.{IsTraced}
+use Rattle.step_meaning.specs.Traced.{At, IsTraced}
+
+abbrev pub cells_declared : Block → List CType
+cells_declared b = map (λ s. s.declared) b
+
+-- what the memory of each step of a run has, and no law about traced lists asks
+pub record HasVariables (q : Core) (s : Step) : Type 0 where
+  -- the variables of file scope with the core's cells and types
+  pub globals : map cells_declared s.memory.globals ≡ map (λ d. cells_declared (empty_block q.layouts d)) q.globals
+  -- the variables of the step's own activation, also after Enter
+  pub own : (r : Frame) × (frame_of s.activation s.memory.frames ≡ Some r)
+
+abbrev pub EachHasVariables : Core → List Step → Type 0
+EachHasVariables q ss = (i : ℕ) (s : Step) → At ss i s → HasVariables q s
 
 abbrev pub WellFormedTraced : Type 0
-WellFormedTraced = (q : Core) → IsWellFormed q → (input : List ℕ) (k : ℕ) → IsTraced q (steps (run q input k))
+WellFormedTraced = (q : Core) → IsWellFormed q → (input : List ℕ) (k : ℕ) → IsTraced q (steps (run q input k)) × EachHasVariables q (steps (run q input k))
