@@ -27,7 +27,8 @@ use Rattle.step_meaning.specs.declared.program.HookPoint.{HookPoint}
 use Rattle.step_meaning.specs.declared.program.HookPlace.TheVariants as place
 use Rattle.step_meaning.specs.Annotations.{PredicateFits}
 use Rattle.step_meaning.specs.Fit.{Fit, PointFits, FitTogether, hook_setting, hook_allowed}
-use Rattle.step_meaning.specs.Traced.{IsFunctionOf, HasBody}
+use Rattle.step_meaning.specs.Traced.{IsFunctionOf}
+use Rattle.step_meaning.specs.ExpressionTypes.{has_body}
 use Rattle.step_meaning.proofs.Examples.{int, pointer_to, array_of, declared, lit, library}
 use Rattle.step_meaning.proofs.AnnotationExamples.{limited, false_is_not_true, some_is_not_none}
 use Rattle.step_meaning.proofs.FoldExamples.{point, hooks, variable, read, safe, two_writes, recursion, keep_x, apart_from_x, save, one_more}
@@ -80,7 +81,7 @@ keep_x_fits =
       globals = tt;
       few_globals = lit≤ tt;
       few_saves = λ f. few_of (2 == f) (3 == f) [] (lit≤ tt);
-      points = (write_fits 2 _ (refl, tt), (write_fits 3 _ (refl, tt), tt));
+      points = (write_fits 2 _ (refl, refl), (write_fits 3 _ (refl, refl), tt));
     }
 
 keep_x_alone : FitTogether two_writes (keep_x ∷ [])
@@ -106,8 +107,8 @@ saving_fits =
     enter : PointFits recursion saving (point 2 place.Enter (declared int ∷ []) (save names.GhostLocal ∷ []))
     enter =
         record {
-          function = (_, (refl, tt));
-          saves = (record { scalar = tt; layouts = tt; rules = refl; depth = lit≤ tt }, tt);
+          function = (_, (refl, refl));
+          saves = (record { scalar = refl; layouts = tt; rules = refl; depth = lit≤ tt }, tt);
           statements = (tt, tt);
           sets_own = (lit< tt, tt);
           saves_at_enter = (refl, tt);
@@ -123,7 +124,7 @@ saving_fits =
     leave : PointFits recursion saving (point 2 place.Return [] (one_more names.GhostLocal ∷ []))
     leave =
         record {
-          function = (_, (refl, tt));
+          function = (_, (refl, refl));
           saves = tt;
           statements = (refl, tt);
           sets_own = (tt, tt);
@@ -141,7 +142,7 @@ saving_fits =
 always_fits : PointFits recursion saving (point 2 place.Changed [] (one_more names.GhostLocal ∷ []))
 always_fits =
     record {
-      function = (_, (refl, tt));
+      function = (_, (refl, refl));
       saves = tt;
       statements = (refl, tt);
       sets_own = (tt, tt);
@@ -173,19 +174,19 @@ Refused pt = Fit two_writes (one_point pt) → ⊥
 no_body : Refused (point 0 place.Enter [] [])
 no_body f = without (f.points.0.function.0) (f.points.0.function.1.0) (f.points.0.function.1.1)
   where
-    without : (g : Function) → Some library ≡ Some g → HasBody g.body → ⊥
-    without g e b = subst (λ o. HasBody (body_of o)) (sym e) b
+    without : (g : Function) → Some library ≡ Some g → IsTrue (has_body g) → ⊥
+    without g e b = refuted (subst (λ o. IsTrue (one_with_body o)) (sym e) b)
       where
-        body_of : Option Function → Option (List Stmt)
-        body_of None = None
-        body_of (Some g) = g.body
+        one_with_body : Option Function → Bool
+        one_with_body None = false
+        one_with_body (Some g) = has_body g
 
 no_function : Refused (point 4 place.Enter [] [])
 no_function f = some_is_not_none _ (f.points.0.function.1.0)
 
 -- ghosts are scalars of types that keep the rules
 array_save : Refused (point 2 place.Enter (declared (array_of int 3) ∷ []) [])
-array_save f = f.points.0.saves.0.scalar
+array_save f = refuted f.points.0.saves.0.scalar
 
 void_pointer_save : Refused (point 2 place.Enter (declared (pointer_to type.Void) ∷ []) [])
 void_pointer_save f = refuted f.points.0.saves.0.rules
@@ -201,7 +202,7 @@ deep_save : Refused (point 2 place.Enter (declared (pointers 100) ∷ []) [])
 deep_save f = let h : 101 ≤ 100 = f.points.0.saves.0.depth in omega arith
 
 array_global : Fit two_writes (hooks (declared (array_of int 3) ∷ []) []) → ⊥
-array_global f = f.globals.0.scalar
+array_global f = refuted f.globals.0.scalar
 
 -- at most 2 ^ 26 of them
 many_globals : (n : ℕ) → 2 ^ 26 < n → Fit two_writes (hooks (replicate n (declared int)) []) → ⊥

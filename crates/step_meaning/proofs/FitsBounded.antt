@@ -1,5 +1,5 @@
 -- Predicates and terms that fit are bounded, in each view whose cells, parameters and result hold values of their types.
-use Rattle.std.proofs.Common.{◌≡◌, ℕ, ◌&&◌, pos, ◌+ℤ◌, ◌*ℤ◌, List, [], ◌∷◌, length, Option, Some, None, All, refl, sym, subst, inl, inr}
+use Rattle.std.proofs.Common.{◌≡◌, ℕ, ◌&&◌, pos, ◌+ℤ◌, ◌*ℤ◌, List, [], ◌∷◌, Option, Some, None, All, refl, sym, subst, inl, inr}
 use Rattle.std.specs.List.{AllByRecursion}
 use Rattle.std.specs.Int.Signed.{le_z_yes}
 use Rattle.std.proofs.lemmas.List.Elements.{All-nil, All-cons}
@@ -15,14 +15,15 @@ use Rattle.step_meaning.specs.Settings.{Setting}
 use Rattle.step_meaning.specs.Views.{Sight, Reads, now, at_enter}
 use Rattle.step_meaning.specs.Terms.{TermValue, Number, NullPointer, value_by, place_by, value_of}
 use Rattle.step_meaning.specs.Terms as term
-use Rattle.step_meaning.specs.Predicates.{denoted_types}
+use Rattle.step_meaning.specs.Predicates.{denoted_size}
 use Rattle.step_meaning.specs.Bounded.{WhereDefined, PartsBounded, PlaceBounded, TermBounded, EndsWithin, SpanBounded, LocationBounded, IsBounded}
 use Rattle.step_meaning.specs.Intervals.{Interval, IsLimited, alone, sum, times_size, interval, interval_of_place, TermLimited, PlaceLimited, SpanLimited, RangeLimited, LocationLimited, PredicateLimited}
-use Rattle.step_meaning.specs.TermKinds.{Kind, Integer, OfAccess, is_register, is_fixed_place, member_type, element_type, pointed_type, kind_of_read, term_kind, place_type, RangeFits, LocationFits, SeparableFits, PredicateKinds}
+use Rattle.step_meaning.specs.TypeRules.{member_type}
+use Rattle.step_meaning.specs.TermKinds.{Kind, Integer, OfAccess, is_register_place, is_fixed_place, pointed_type, kind_of_read, term_kind, place_type, RangeFits, LocationFits, SeparableFits, PredicateKinds}
 use Rattle.step_meaning.specs.Annotations.{Allowed}
 use Rattle.step_meaning.specs.FitsBounded.{AreTyped, IsTypedSight, FitsBounded}
 use Rattle.step_meaning.proofs.IntervalEnds.{within, in_alone, in_sum, in_product}
-use Rattle.step_meaning.proofs.ValuesInside.{some_is, some_of_bind, some_where, negation_kind, operation_kinds, move_kinds, element_kind, read_place, address_place, relation_kinds, object_kind, Inside, where_defined, product_within, value_inside, place_inside}
+use Rattle.step_meaning.proofs.ValuesInside.{some_is, some_of_bind, some_if, negation_kind, operation_kinds, move_kinds, indexed_parts, read_place, address_place, relation_kinds, object_kind, Inside, where_defined, product_within, value_inside, place_inside}
 
 -- ---- what keeps the limit has an interval that does
 
@@ -51,10 +52,10 @@ module _ (a : Allowed) where
 
 ends : (a : Allowed) (s : Sight) (i from to : Interval) (size : ℕ) (x y z : Option TermValue) → SpanLimited a i from to size
     → ((v : TermValue) → x ≡ Some v → Inside i v) → ((v : TermValue) → y ≡ Some v → Inside from v) → ((v : TermValue) → z ≡ Some v → Inside to v) → EndsWithin s x y z size
-ends a s i from to size (Some (term.PointerTo n o)) (Some (Number b)) (Some (Number c)) l h k m =
+ends a s i from to size (Some (term.PointerInto n o)) (Some (Number b)) (Some (Number c)) l h k m =
     let first = in_product from (alone (pos size)) b (pos size) (k (Number b) refl) (in_alone (pos size)) in
     let past = in_product (sum to (alone (pos 1))) (alone (pos size)) (c +ℤ pos 1) (pos size) (in_sum to (alone (pos 1)) c (pos 1) (m (Number c) refl) (in_alone (pos 1))) (in_alone (pos size)) in
-    let base = h (term.PointerTo n o) refl in (
+    let base = h (term.PointerInto n o) refl in (
       within (times_size from size) (b *ℤ pos size) l.0 first,
       within (times_size (sum to (alone (pos 1))) size) ((c +ℤ pos 1) *ℤ pos size) l.1 past,
       within (sum i (times_size from size)) (o +ℤ (b *ℤ pos size)) l.2 (in_sum i (times_size from size) o (b *ℤ pos size) base first),
@@ -76,7 +77,7 @@ module _ (g : Setting) (a : Allowed) (s : Sight) (typed : IsTypedSight g a s) wh
     parts (t.Int z) reads h k c l = tt
     parts t.Null reads h k c l = tt
     parts (t.Load q u) reads h k c l = let m = read_place g a (place_type g a q) u k c in place_parts q reads h m.0 m.1 l.1
-    parts (t.Address q u) reads h k c l = let m = address_place g a (is_register q) (place_type g a q) u k c in place_parts q reads h m.0 m.1 l
+    parts (t.Address q u) reads h k c l = let m = address_place g a (is_register_place q) (place_type g a q) u k c in place_parts q reads h m.0 m.1 l
     parts (t.Neg' b (more_of-Term e end_of-Term)) reads h k c l =
         let i = negation_kind (term_kind g a e) k c in (defined e reads h Integer i l.1, parts e reads h Integer i l.1)
     parts (t.Arith' o b (more_of-Term e end_of-Term) d (more_of-Term f end_of-Term)) reads h k c l =
@@ -89,7 +90,7 @@ module _ (g : Setting) (a : Allowed) (s : Sight) (typed : IsTypedSight g a s) wh
           product_within (interval a f) (value_by s f reads) size l.1 (value_inside g a s typed f reads h Integer i.1),
         )
     parts (t.AtPre q u) reads h k c l =
-        let m = read_place g a (place_type g a q) u k (some_where (a.at_enter && is_fixed_place g a q) (kind_of_read g a (place_type g a q) u) k c) in
+        let m = read_place g a (place_type g a q) u k (some_if (a.at_enter && is_fixed_place g a q) (kind_of_read g a (place_type g a q) u) k c) in
         place_parts q (at_enter s) typed.cells_at_enter m.0 m.1 l.1
     parts t.Accessed reads h k c l = tt
     parts (t.Parameter f i) reads h k c l = tt
@@ -103,12 +104,11 @@ module _ (g : Setting) (a : Allowed) (s : Sight) (typed : IsTypedSight g a s) wh
         let m = some_of_bind (λ u. member_type g.layouts u o) (place_type g a q) u c in
         (place_defined (p.Member' b (more_of-TermPlace q end_of-TermPlace) o) reads h u c l.0, place_parts q reads h m.0 m.1 l.1)
     place_parts (p.Index' b (more_of-TermPlace q end_of-TermPlace) d (more_of-Term e end_of-Term) size) reads h u c l =
-        let m = some_of_bind (λ u. element_type g.layouts u (term_kind g a e) size) (place_type g a q) u c in
-        let i = element_kind g.layouts m.0 (term_kind g a e) size u m.2 in (
+        let m = indexed_parts g.layouts size (place_type g a q) (term_kind g a e) u c in (
           place_defined (p.Index' b (more_of-TermPlace q end_of-TermPlace) d (more_of-Term e end_of-Term) size) reads h u c l.0,
-          place_parts q reads h m.0 m.1 l.2,
-          (defined e reads h Integer i l.3, parts e reads h Integer i l.3),
-          product_within (interval a e) (value_by s e reads) size l.1 (value_inside g a s typed e reads h Integer i),
+          place_parts q reads h m.0.0 m.0.1 l.2,
+          (defined e reads h Integer m.1 l.3, parts e reads h Integer m.1 l.3),
+          product_within (interval a e) (value_by s e reads) size l.1 (value_inside g a s typed e reads h Integer m.1),
         )
 
   term_bounded : (e : Term) (k : Kind) → term_kind g a e ≡ Some k → TermLimited a e → TermBounded s e (now s)
@@ -132,8 +132,8 @@ module _ (g : Setting) (a : Allowed) (s : Sight) (typed : IsTypedSight g a s) wh
   location_bounded : (l : Location) (k : Kind) → term_kind g a l.base ≡ Some k → RangeFits g a l.span → LocationLimited a g.layouts l → LocationBounded s l
   location_bounded l k c f lim = (
     term_bounded l.base k c lim.0,
-    subst (λ ls. SpanBounded s (value_of s l.base) l.span (length (denoted_types ls l.ctype))) (sym typed.layouts)
-        (span_bounded (value_of s l.base) (interval a l.base) (length (denoted_types g.layouts l.ctype)) l.span f lim.1 (value_inside g a s typed l.base (now s) typed.cells k c)),
+    subst (λ ls. SpanBounded s (value_of s l.base) l.span (denoted_size ls l.ctype)) (sym typed.layouts)
+        (span_bounded (value_of s l.base) (interval a l.base) (denoted_size g.layouts l.ctype) l.span f lim.1 (value_inside g a s typed l.base (now s) typed.cells k c)),
   )
 
   fitting_bounded : (l : Location) → LocationFits g a l → LocationLimited a g.layouts l → LocationBounded s l

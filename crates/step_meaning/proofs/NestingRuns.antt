@@ -1,6 +1,6 @@
 -- The steps of a run nest as calls do, whatever the program is: no typing is needed for it.
 use Rattle.std.proofs.Common.{◌≡◌, ◌==◌, ℕ, zero, suc, Bool, true, false, cond, List, [], ◌∷◌, map, drop, Option, Some, None, Result, Ok, Err, refl, sym, ap, subst, ◌∙◌}
-use Rattle.std.specs.Prelude.{ℤ, slice_get, option_map}
+use Rattle.std.specs.Prelude.{ℤ, slice_get, option_map, is_some, IsTrue}
 use Rattle.step_meaning.specs.declared.value.CType.{CType}
 use Rattle.step_meaning.specs.declared.value.CType.TheVariants as type
 use Rattle.step_meaning.specs.declared.value.NameKind.{NameKind}
@@ -43,7 +43,8 @@ use Rattle.step_meaning.specs.Calls as ca
 use Rattle.step_meaning.specs.Calls.{annotations, after_annotations, first_frame, with_frame, without_frame, value_or_zero}
 use Rattle.step_meaning.specs.Runs.{run, start_state, exit_of}
 use Rattle.step_meaning.specs.Ghosts.{ghosts_after}
-use Rattle.step_meaning.specs.Traced.{HasBody, IsFunctionOf}
+use Rattle.step_meaning.specs.ExpressionTypes.{has_body}
+use Rattle.step_meaning.specs.Traced.{IsFunctionOf}
 use Rattle.step_meaning.proofs.Ranges.{false_is_not_true}
 use Rattle.step_meaning.proofs.TypedMemory.{drop_map}
 use Rattle.step_meaning.proofs.Nesting.{numbers, frame_numbers, Nest}
@@ -355,7 +356,7 @@ module _ (q : Core) (bound : ℕ) where
   abbrev AllNest : (ℕ → List Value → RestingCall) → Type 0
   AllNest call = (h : Here) (hs : List Here) (g : ℕ) (vs : List Value) → CallNests q (h ∷ hs) (call g vs)
 
-  nest_activation : (call : ℕ → List Value → RestingCall) → AllNest call → (hs : List Here) (g : ℕ) (f : Function) → slice_get q.functions g ≡ Some f → HasBody f.body → (body : List Stmt) (vs : List Value) → CallNests q hs (resting.alone (unset_registers f.registers) (ca.activation resting q bound call g f body vs))
+  nest_activation : (call : ℕ → List Value → RestingCall) → AllNest call → (hs : List Here) (g : ℕ) (f : Function) → slice_get q.functions g ≡ Some f → IsTrue (has_body f) → (body : List Stmt) (vs : List Value) → CallNests q hs (resting.alone (unset_registers f.registers) (ca.activation resting q bound call g f body vs))
   nest_activation call calls hs g f found has body vs = record { by = opened }
     where
       opened : (rest : Value → State → Trace) → ((v : Value) (s : State) → Opens hs s → Nest q hs s.made (steps (rest v s))) → (s : State) → Opens hs s → (hs ≡ [] → s.made ≡ 0) → Nest q hs s.made (steps (resting.alone (unset_registers f.registers) (ca.activation resting q bound call g f body vs) rest s))
@@ -396,7 +397,7 @@ module _ (q : Core) (bound : ℕ) where
 
   nest_body : (call : ℕ → List Value → RestingCall) → AllNest call → (hs : List Here) (g : ℕ) (f : Function) → slice_get q.functions g ≡ Some f → (body : Option (List Stmt)) → f.body ≡ body → (vs : List Value) → CallNests q hs (ca.call_body resting q bound call g f body vs)
   nest_body call calls hs g f found None e vs = record { by = λ rest h s m first. tt }
-  nest_body call calls hs g f found (Some body) e vs = nest_activation call calls hs g f found (subst HasBody (sym e) tt) body vs
+  nest_body call calls hs g f found (Some body) e vs = nest_activation call calls hs g f found (subst (λ o. IsTrue (is_some o)) (sym e) refl) body vs
 
   nest_call_of : (call : ℕ → List Value → RestingCall) → AllNest call → (hs : List Here) (g : ℕ) (f : Option Function) → slice_get q.functions g ≡ f → (vs : List Value) → CallNests q hs (ca.call_of resting q bound call g f vs)
   nest_call_of call calls hs g None found vs = record { by = λ rest h s m first. tt }

@@ -66,14 +66,14 @@ closed_fits : IsProgramMemory empty_main closed_memory
 closed_fits = record { globals = refl; globals_typed = no_blocks; locals_typed = λ k d lt. absurd (omega arith); one_frame_each = λ i j d lt lt'. absurd (omega arith) }
 
 enter_fits : IsStepOf empty_main enter
-enter_fits = record { memory = open_fits; own_function = refl; pointers = λ k d lt. absurd (omega arith); accesses = tt; executed = (main, (refl, tt), tt); parameters_hold = (open_frame, refl, tt) }
+enter_fits = record { memory = open_fits; own_function = refl; pointers = λ k d lt. absurd (omega arith); accesses = tt; executed = (main, (refl, refl), tt); parameters_hold = (open_frame, refl, tt) }
 
 module _ (memory : Memory) (fits : IsProgramMemory empty_main memory) where
   abbrev leave : Step
   leave = leave_in memory
 
   leave_fits : IsStepOf empty_main leave
-  leave_fits = record { memory = fits; own_function = refl; pointers = tt; accesses = tt; executed = (main, (refl, tt), refl); parameters_hold = tt }
+  leave_fits = record { memory = fits; own_function = refl; pointers = tt; accesses = tt; executed = (main, (refl, refl), refl); parameters_hold = tt }
 
   -- what holds of both steps holds of each
   at_either : (P : ℕ → Step → Type 0) → P 0 enter → P 1 leave → (i : ℕ) (s : Step) → At (enter ∷ leave ∷ []) i s → P i s

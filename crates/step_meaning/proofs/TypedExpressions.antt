@@ -23,7 +23,7 @@ use Rattle.step_meaning.specs.Expressions as ex
 use Rattle.step_meaning.specs.Settings.{Setting, variable_type, code_setting}
 use Rattle.step_meaning.specs.Conversions.{is_promoted}
 use Rattle.step_meaning.specs.TypeRules.{is_scalar}
-use Rattle.step_meaning.specs.ExpressionTypes.{where_true, has_this_type, has_kind, has_scalar_type, is_null, are_of_one_kind, are_of_one_pointer, is_pointer_beside_null, is_equality, are_comparable, choice_type, is_taken_by, may_answer, is_register, parameter_types, called, call_type, pointer_to}
+use Rattle.step_meaning.specs.ExpressionTypes.{has_this_type, has_kind, has_scalar_type, is_null_constant, are_of_one_kind, are_of_one_pointer, is_pointer_beside_null, is_equality, are_comparable, choice_type, is_taken_by, may_answer, is_register, parameter_types, called, call_type, pointer_to}
 use Rattle.step_meaning.specs.ExpressionTypes as typing
 use Rattle.step_meaning.proofs.Ranges.{false_is_not_true, left_of_and, right_of_and}
 use Rattle.step_meaning.proofs.TypedMemory.{WhereSome, InCell, Shape}
@@ -33,7 +33,7 @@ use Rattle.step_meaning.proofs.TypedOperators.{OfType, where_true_fits, either_t
 use Rattle.step_meaning.proofs.TypedPlaces.{Designates, all_some, NullKeeps, PlaceTyped, keeps_choice, taken_keeps, keeps_read, keeps_assign, keeps_update, keeps_address, keeps_deref, keeps_member, keeps_element}
 use Rattle.step_meaning.proofs.Kept.{CallKeeps, Keeps, keeps_pure, keeps_bind, keeps_emit, keeps_through}
 
-null_is : (e : Expr) → is_null e ≡ true → e ≡ Null
+null_is : (e : Expr) → is_null_constant e ≡ true → e ≡ Null
 null_is Null h = refl
 null_is e h = false_is_not_true h
 
@@ -49,7 +49,7 @@ some_of_one_pointer _ b e = false_is_not_true e
 
 some_beside_null : (e : Expr) (b : Option CType) → is_pointer_beside_null e b ≡ true → is_some b ≡ true
 some_beside_null e (Some t) h = refl
-some_beside_null e None h = right_of_and (is_null e) _ h
+some_beside_null e None h = right_of_and (is_null_constant e) _ h
 
 module _ (q : Core) (f : Function) (frames : List Shape) (here : Here) (call : ℕ → List Value → DirectCall) where
   abbrev pub register_types : List CType
@@ -78,7 +78,7 @@ module _ (q : Core) (f : Function) (frames : List Shape) (here : Here) (call : �
   pub null_keeps : (e : Expr) → NullKeeps q frames register_types here e (eval e)
   null_keeps e h p t = subst (λ e. K (InCell (type.Pointer' p t)) (eval e)) (sym (null_is e h)) (keeps_pure value.Null (tt, tt))
 
-  null_is_some : (e : Expr) → is_null e ≡ true → is_some (typing.type_of q own e) ≡ true
+  null_is_some : (e : Expr) → is_null_constant e ≡ true → is_some (typing.type_of q own e) ≡ true
   null_is_some e h = subst (λ e. is_some (typing.type_of q own e) ≡ true) (sym (null_is e h)) refl
 
   comparable_is_some : (c : CompareOp) (e g : Expr) → are_comparable c e (typing.type_of q own e) g (typing.type_of q own g) ≡ true → (is_some (typing.type_of q own e) ≡ true) × (is_some (typing.type_of q own g) ≡ true)

@@ -16,13 +16,13 @@ use Rattle.step_meaning.specs.declared.program.Layout.{Layout}
 use Rattle.step_meaning.specs.declared.program.Core.{Core}
 use Rattle.step_meaning.specs.Numbers.{converted, binary_of, unary_of}
 use Rattle.step_meaning.specs.Names.{integer, truth, of_truth, compared, distance}
-use Rattle.step_meaning.specs.Types.{same_type}
+use Rattle.step_meaning.specs.Types.{same_type, where_true}
 use Rattle.step_meaning.specs.State.{Here}
 use Rattle.step_meaning.specs.Flow.{direct, Direct}
 use Rattle.step_meaning.specs.Accesses as acc
 use Rattle.step_meaning.specs.Conversions.{is_promoted, same_int_kind}
 use Rattle.step_meaning.specs.TypeRules.{cells, is_scalar}
-use Rattle.step_meaning.specs.ExpressionTypes.{where_true, is_void, has_this_type, has_kind, has_integer_type, has_promoted_kind, has_pointer_type, has_scalar_type, converted_type, is_shift, binary_type, moved_type, move_type, difference_type}
+use Rattle.step_meaning.specs.ExpressionTypes.{is_void, has_this_type, has_kind, has_integer_type, has_promoted_kind, has_pointer_type, has_scalar_type, converted_type, is_shift, binary_type, moved_type, move_type, difference_type}
 use Rattle.step_meaning.proofs.Ranges.{false_is_not_true, left_of_and, right_of_and, converted_in_range}
 use Rattle.step_meaning.proofs.OperatorRanges.{InRange, binary_fits, unary_fits, distance_fits, HasShortOffset}
 use Rattle.step_meaning.proofs.TypedMemory.{WhereSome, InCell, has_same_type, same_type_turned, Shape}
@@ -69,6 +69,10 @@ short_offset (value.Pointer n o) h = h.0
 pub where_true_fits : (P : CType → Type 0) (b : Bool) (t : CType) → (b ≡ true → P t) → WhereSome P (where_true b t)
 where_true_fits P true t h = h refl
 where_true_fits P false t h = tt
+
+pub if_fits : (P : CType → Type 0) (b : Bool) (o : Option CType) → (b ≡ true → WhereSome P o) → WhereSome P (cond b o None)
+if_fits P true o h = h refl
+if_fits P false o h = tt
 
 -- one of two tests is passed
 pub either_true : {A : Type 0} (a b : Bool) → (a || b) ≡ true → (a ≡ true → A) → (b ≡ true → A) → A

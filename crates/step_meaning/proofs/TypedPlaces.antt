@@ -18,16 +18,17 @@ use Rattle.step_meaning.specs.State.{Here, Lvalue, InRegister, At}
 use Rattle.step_meaning.specs.Flow.{direct, Direct}
 use Rattle.step_meaning.specs.Accesses as acc
 use Rattle.step_meaning.specs.Accesses.{answer, converted_to}
+use Rattle.step_meaning.specs.Types.{where_true}
 use Rattle.step_meaning.specs.Conversions.{is_promoted, same_int_kind, promoted, common}
-use Rattle.step_meaning.specs.TypeRules.{cells, is_scalar}
-use Rattle.step_meaning.specs.ExpressionTypes.{where_true, is_void, has_this_type, has_kind, has_integer_type, has_pointer_type, is_null, is_shift, are_of_one_kind, are_of_one_pointer, is_pointer_beside_null, are_void, choice_type, is_taken_by, is_operation, pointed_to, member_type, element_type, is_addressed_at, pointer_to}
+use Rattle.step_meaning.specs.TypeRules.{cells, is_scalar, member_type, element_type}
+use Rattle.step_meaning.specs.ExpressionTypes.{is_void, has_this_type, has_kind, has_integer_type, has_pointer_type, is_null_constant, is_shift, are_of_one_kind, are_of_one_pointer, is_pointer_beside_null, are_void, choice_type, is_taken_by, is_operation, pointed_to, type_of_member, type_of_element, is_addressed_at, pointer_to}
 use Rattle.step_meaning.specs.Traced.{HasType}
 use Rattle.step_meaning.proofs.Ranges.{false_is_not_true, left_of_and, right_of_and, converted_in_range}
 use Rattle.step_meaning.proofs.OperatorRanges.{OnOk, InRange}
 use Rattle.step_meaning.proofs.TypedMemory.{WhereSome, InCell, Shape}
 use Rattle.step_meaning.proofs.StepsFit.{IsAddress}
 use Rattle.step_meaning.proofs.TypedAccesses.{IsPlace, address_of_type, type_of_address, keeps_checked, keeps_move_by, keeps_load, keeps_store}
-use Rattle.step_meaning.proofs.TypedOperators.{OfType, of_cell, where_true_fits, either_true, not_true, Typed, this_keeps, kind_keeps, some_keeps, this_is_some, integer_is_some}
+use Rattle.step_meaning.proofs.TypedOperators.{OfType, of_cell, where_true_fits, if_fits, either_true, not_true, Typed, this_keeps, kind_keeps, some_keeps, this_is_some, integer_is_some}
 use Rattle.step_meaning.proofs.Kept.{Keeps, Always, keeps_pure, keeps_bind, keeps_weaker, keeps_cond}
 
 -- what an lvalue of a type designates: where it is a register, a scalar; else an object at an address
@@ -58,7 +59,7 @@ module _ (q : Core) (frames : List Shape) (registers : List CType) (here : Here)
 
   -- a null pointer constant is a pointer of each type
   abbrev pub NullKeeps : Expr → Direct Value → Type 0
-  NullKeeps e d = is_null e ≡ true → (p : _) (t : _) → K (InCell (type.Pointer' p t)) d
+  NullKeeps e d = is_null_constant e ≡ true → (p : _) (t : _) → K (InCell (type.Pointer' p t)) d
 
   -- ---- choices
 
@@ -66,22 +67,22 @@ module _ (q : Core) (frames : List Shape) (registers : List CType) (here : Here)
   second_keeps : (a b : Option CType) (f : Expr) (y : Direct Value) → (are_of_one_kind a b || (are_of_one_pointer a b || (are_void a b || is_pointer_beside_null f a))) ≡ true → Typed q frames registers b y → NullKeeps f y → Typed q frames registers a y
   second_keeps None b f y e h n = tt
   second_keeps (Some (type.Int k)) b f y e h n =
-      either_true (is_promoted k && has_kind k b) _ e (λ e. kind_keeps q frames registers here k b y (right_of_and _ _ e) h) (λ e. false_is_not_true (right_of_and (is_null f) false e))
+      either_true (is_promoted k && has_kind k b) _ e (λ e. kind_keeps q frames registers here k b y (right_of_and _ _ e) h) (λ e. false_is_not_true (right_of_and (is_null_constant f) false e))
   second_keeps (Some (type.Pointer' p t)) b f y e h n =
-      either_true (has_this_type (type.Pointer' p t) b) _ e (λ e. this_keeps q frames registers here (type.Pointer' p t) b y refl e h) (λ e. n (left_of_and (is_null f) true e) p t)
+      either_true (has_this_type (type.Pointer' p t) b) _ e (λ e. this_keeps q frames registers here (type.Pointer' p t) b y refl e h) (λ e. n (left_of_and (is_null_constant f) true e) p t)
   second_keeps (Some type.Void) b f y e h n =
-      either_true (are_void (Some type.Void) b) _ e (λ e. some_keeps q frames registers here b y (void_is_some (Some type.Void) b e) h) (λ e. false_is_not_true (right_of_and (is_null f) false e))
-  second_keeps (Some (type.Array' p t n)) b f y e h k = false_is_not_true (right_of_and (is_null f) false e)
-  second_keeps (Some (type.Struct n)) b f y e h k = false_is_not_true (right_of_and (is_null f) false e)
+      either_true (are_void (Some type.Void) b) _ e (λ e. some_keeps q frames registers here b y (void_is_some (Some type.Void) b e) h) (λ e. false_is_not_true (right_of_and (is_null_constant f) false e))
+  second_keeps (Some (type.Array' p t n)) b f y e h k = false_is_not_true (right_of_and (is_null_constant f) false e)
+  second_keeps (Some (type.Struct n)) b f y e h k = false_is_not_true (right_of_and (is_null_constant f) false e)
 
   -- the first has that of the second
   first_keeps : (b : Option CType) (e : Expr) (x : Direct Value) → is_pointer_beside_null e b ≡ true → NullKeeps e x → Typed q frames registers b x
   first_keeps None e x h n = tt
   first_keeps (Some (type.Pointer' p t)) e x h n = n (left_of_and _ _ h) p t
-  first_keeps (Some type.Void) e x h n = false_is_not_true (right_of_and (is_null e) false h)
-  first_keeps (Some (type.Int k)) e x h n = false_is_not_true (right_of_and (is_null e) false h)
-  first_keeps (Some (type.Array' p t m)) e x h n = false_is_not_true (right_of_and (is_null e) false h)
-  first_keeps (Some (type.Struct m)) e x h n = false_is_not_true (right_of_and (is_null e) false h)
+  first_keeps (Some type.Void) e x h n = false_is_not_true (right_of_and (is_null_constant e) false h)
+  first_keeps (Some (type.Int k)) e x h n = false_is_not_true (right_of_and (is_null_constant e) false h)
+  first_keeps (Some (type.Array' p t m)) e x h n = false_is_not_true (right_of_and (is_null_constant e) false h)
+  first_keeps (Some (type.Struct m)) e x h n = false_is_not_true (right_of_and (is_null_constant e) false h)
 
   pub keeps_choice : (e f : Expr) (a b : Option CType) (d x y : Direct Value) → K Always d → Typed q frames registers a x → Typed q frames registers b y → NullKeeps e x → NullKeeps f y → Typed q frames registers (choice_type e a f b) (direct.bind d (λ v. cond (truth v) x y))
   keeps_choice e f a b d x y h i j n m = by (are_of_one_kind a b || (are_of_one_pointer a b || (are_void a b || is_pointer_beside_null f a))) refl (is_pointer_beside_null e b) refl
@@ -102,9 +103,9 @@ module _ (q : Core) (frames : List Shape) (registers : List CType) (here : Here)
 
   pub taken_keeps : (t : CType) (e : Expr) (a : Option CType) (x : Direct Value) → is_taken_by t e a ≡ true → Typed q frames registers a x → NullKeeps e x → K (InCell t) x
   taken_keeps t e a x h k n =
-      either_true (has_this_type t a) _ (right_of_and _ _ h) (λ g. this_keeps q frames registers here t a x (left_of_and _ _ h) g k) (λ g. null t (right_of_and (is_null e) _ g) (left_of_and (is_null e) _ g))
+      either_true (has_this_type t a) _ (right_of_and _ _ h) (λ g. this_keeps q frames registers here t a x (left_of_and _ _ h) g k) (λ g. null t (right_of_and (is_null_constant e) _ g) (left_of_and (is_null_constant e) _ g))
     where
-      null : (t : CType) → has_pointer_type (Some t) ≡ true → is_null e ≡ true → K (InCell t) x
+      null : (t : CType) → has_pointer_type (Some t) ≡ true → is_null_constant e ≡ true → K (InCell t) x
       null (type.Pointer' p u) g l = n l p u
       null type.Void g l = false_is_not_true g
       null (type.Int k) g l = false_is_not_true g
@@ -223,22 +224,23 @@ module _ (q : Core) (frames : List Shape) (registers : List CType) (here : Here)
   keeps_deref (Some (type.Array' p t n)) x h = tt
   keeps_deref (Some (type.Struct n)) x h = tt
 
-  pub keeps_member : (layouts : List Layout) (own : Bool) (o : ℕ) (a : Option CType) (d : Direct Lvalue) → PlaceTyped own a d → PlaceTyped false (member_type layouts o a) (direct.bind d (λ l. acc.object_after direct here l (pos o)))
-  keeps_member layouts own o (Some (type.Struct n)) d h = all_some _ (member_type layouts o (Some (type.Struct n))) (λ t. keeps_bind h (λ l g. keeps_weaker (anywhere false t) (after_keeps own (type.Struct n) l (pos o) refl g)))
+  pub keeps_member : (layouts : List Layout) (own : Bool) (o : ℕ) (a : Option CType) (d : Direct Lvalue) → PlaceTyped own a d → PlaceTyped false (type_of_member layouts o a) (direct.bind d (λ l. acc.object_after direct here l (pos o)))
+  keeps_member layouts own o (Some (type.Struct n)) d h = all_some _ (member_type layouts (type.Struct n) o) (λ t. keeps_bind h (λ l g. keeps_weaker (anywhere false t) (after_keeps own (type.Struct n) l (pos o) refl g)))
   keeps_member layouts own o None d h = tt
   keeps_member layouts own o (Some type.Void) d h = tt
   keeps_member layouts own o (Some (type.Int k)) d h = tt
   keeps_member layouts own o (Some (type.Pointer' p t)) d h = tt
   keeps_member layouts own o (Some (type.Array' p t n)) d h = tt
 
-  pub keeps_element : (layouts : List Layout) (own : Bool) (size : ℕ) (a b : Option CType) (d : Direct Lvalue) (x : Direct Value) → PlaceTyped own a d → Typed q frames registers b x → PlaceTyped false (element_type layouts size a b) (direct.bind d (λ l. direct.bind x (λ i. acc.object_after direct here l (integer i *ℤ pos size))))
+  pub keeps_element : (layouts : List Layout) (own : Bool) (size : ℕ) (a b : Option CType) (d : Direct Lvalue) (x : Direct Value) → PlaceTyped own a d → Typed q frames registers b x → PlaceTyped false (type_of_element layouts size a b) (direct.bind d (λ l. direct.bind x (λ i. acc.object_after direct here l (integer i *ℤ pos size))))
   keeps_element layouts own size (Some (type.Array' p (more_of-CType t end_of-CType) n)) b d x h k =
-      where_true_fits _ (size == cells layouts t && has_integer_type b) t (λ e.
+      if_fits _ (has_integer_type b) (element_type layouts (type.Array' p (more_of-CType t end_of-CType) n) size) (λ e.
+      where_true_fits _ (size == cells layouts t) t (λ f.
       keeps_bind h (λ l g.
-      keeps_bind (some_keeps q frames registers here b x (integer_is_some q frames registers here b (right_of_and _ _ e)) k) (λ v j.
-      keeps_weaker (anywhere false t) (after_keeps own (type.Array' p (more_of-CType t end_of-CType) n) l (integer v *ℤ pos size) refl g))))
-  keeps_element layouts own size None b d x h k = tt
-  keeps_element layouts own size (Some type.Void) b d x h k = tt
-  keeps_element layouts own size (Some (type.Int l)) b d x h k = tt
-  keeps_element layouts own size (Some (type.Pointer' p t)) b d x h k = tt
-  keeps_element layouts own size (Some (type.Struct n)) b d x h k = tt
+      keeps_bind (some_keeps q frames registers here b x (integer_is_some q frames registers here b e) k) (λ v j.
+      keeps_weaker (anywhere false t) (after_keeps own (type.Array' p (more_of-CType t end_of-CType) n) l (integer v *ℤ pos size) refl g)))))
+  keeps_element layouts own size None b d x h k = if_fits _ (has_integer_type b) None (λ e. tt)
+  keeps_element layouts own size (Some type.Void) b d x h k = if_fits _ (has_integer_type b) None (λ e. tt)
+  keeps_element layouts own size (Some (type.Int l)) b d x h k = if_fits _ (has_integer_type b) None (λ e. tt)
+  keeps_element layouts own size (Some (type.Pointer' p t)) b d x h k = if_fits _ (has_integer_type b) None (λ e. tt)
+  keeps_element layouts own size (Some (type.Struct n)) b d x h k = if_fits _ (has_integer_type b) None (λ e. tt)

@@ -2,7 +2,7 @@
 use Rattle.std.proofs.Common.{◌≡◌, ℕ, ◌<◌, ◌^◌, Bool, true, false, cond, ◌&&◌, ◌==◌, nat_lt, ℤ, pos, negsuc, ◌+ℤ◌, ◌-ℤ◌, ◌*ℤ◌, neg_ℤ, int_div, int_rem, ◌≤ℤ◌, int_le, List, slice_get, Option, Some, None, option_map, option_and_then, refl, sym, subst, ap, arith}
 use Rattle.std.proofs.lemmas.Int.{ints}
 use Rattle.std.proofs.lemmas.Bool.{eqb-true}
-use Rattle.step_meaning.specs.declared.value.CType.{CType, end_of-CType, more_of-CType}
+use Rattle.step_meaning.specs.declared.value.CType.{CType}
 use Rattle.step_meaning.specs.declared.value.CType.TheVariants as type
 use Rattle.step_meaning.specs.declared.value.Value.{Value}
 use Rattle.step_meaning.specs.declared.value.Value.TheVariants as value
@@ -27,7 +27,8 @@ use Rattle.step_meaning.specs.Terms as term
 use Rattle.step_meaning.specs.Traced.{HasType, IsPointer}
 use Rattle.step_meaning.specs.Bounded.{IsValueWithin, WhereDefined, IsProductWithin}
 use Rattle.step_meaning.specs.Intervals.{Interval, IsLimited, alone, negated, around_zero, sum, operation, times_size, any_offset, interval_of_type, interval_if_any, interval, interval_of_place}
-use Rattle.step_meaning.specs.TermKinds.{Kind, Integer, PointerTo, AnyNull, OfAccess, kind_of_type, where_true, is_register, member_type, element_type, pointed_type, kind_of_negation, kind_of_operation, kind_of_move, kind_of_read, address_kind, term_kind, place_type, RelationFits, IsObjectType}
+use Rattle.step_meaning.specs.TypeRules.{member_type}
+use Rattle.step_meaning.specs.TermKinds.{Kind, Integer, PointerTo, AnyNull, OfAccess, kind_of_type, is_integer, indexed_type, is_register_place, pointed_type, kind_of_negation, kind_of_operation, kind_of_move, kind_of_read, address_kind, term_kind, place_type, RelationFits, IsObjectType}
 use Rattle.step_meaning.specs.Annotations.{Allowed}
 use Rattle.step_meaning.specs.FitsBounded.{AreTyped, IsTypedSight}
 use Rattle.step_meaning.proofs.IntervalEnds.{In, within, in_alone, in_negated, in_sum, in_difference, in_product, in_quotient, in_remainder}
@@ -56,11 +57,11 @@ some_of_number : (f : ℤ → Option TermValue) (o : Option TermValue) (v : Term
 some_of_number f None v e = none_is v e
 some_of_number f (Some (Number z)) v e = (z, refl, e)
 some_of_number f (Some NullPointer) v e = none_is v e
-some_of_number f (Some (term.PointerTo n o)) v e = none_is v e
+some_of_number f (Some (term.PointerInto n o)) v e = none_is v e
 
-pub some_where : {A : Type 0} (b : Bool) (o : Option A) (a : A) → where_true b o ≡ Some a → o ≡ Some a
-some_where true o a e = e
-some_where false o a e = none_is a e
+pub some_if : {A : Type 0} (b : Bool) (o : Option A) (a : A) → cond b o None ≡ Some a → o ≡ Some a
+some_if true o a e = e
+some_if false o a e = none_is a e
 
 -- ---- kinds of parts
 
@@ -102,16 +103,18 @@ move_kinds layouts (Some (PointerTo u)) (Some OfAccess) size k e = none_is k e
 move_kinds layouts (Some AnyNull) (Some OfAccess) size k e = none_is k e
 move_kinds layouts (Some OfAccess) (Some OfAccess) size k e = none_is k e
 
-pub element_kind : (layouts : List Layout) (u : CType) (o : Option Kind) (size : ℕ) (w : CType) → element_type layouts u o size ≡ Some w → o ≡ Some Integer
-element_kind layouts u (Some Integer) size w e = refl
-element_kind layouts type.Void o size w e = none_is w e
-element_kind layouts (type.Int k) o size w e = none_is w e
-element_kind layouts (type.Pointer' b t) o size w e = none_is w e
-element_kind layouts (type.Struct n) o size w e = none_is w e
-element_kind layouts (type.Array' b (more_of-CType u end_of-CType) n) None size w e = none_is w e
-element_kind layouts (type.Array' b (more_of-CType u end_of-CType) n) (Some (PointerTo x)) size w e = none_is w e
-element_kind layouts (type.Array' b (more_of-CType u end_of-CType) n) (Some AnyNull) size w e = none_is w e
-element_kind layouts (type.Array' b (more_of-CType u end_of-CType) n) (Some OfAccess) size w e = none_is w e
+-- what is indexed has an element type, and the index is an integer
+pub indexed_parts : (layouts : List Layout) (size : ℕ) (o : Option CType) (i : Option Kind) (w : CType) → indexed_type layouts size o i ≡ Some w → ((u : CType) × (o ≡ Some u)) × (i ≡ Some Integer)
+indexed_parts layouts size (Some u) (Some Integer) w e = ((u, refl), refl)
+indexed_parts layouts size None i w e = absurd (no (is_integer i) e)
+  where
+    no : (b : Bool) → cond b None None ≡ Some w → ⊥
+    no true e = none_is w e
+    no false e = none_is w e
+indexed_parts layouts size (Some u) None w e = none_is w e
+indexed_parts layouts size (Some u) (Some (PointerTo x)) w e = none_is w e
+indexed_parts layouts size (Some u) (Some AnyNull) w e = none_is w e
+indexed_parts layouts size (Some u) (Some OfAccess) w e = none_is w e
 
 module _ (g : Setting) (a : Allowed) where
   pub read_place : (o : Option CType) (w : CType) (k : Kind) → kind_of_read g a o w ≡ Some k → (u : CType) × (o ≡ Some u)
@@ -137,12 +140,12 @@ module _ (g : Setting) (a : Allowed) where
 abbrev pub Inside : Interval → TermValue → Type 0
 Inside i (Number z) = In i z
 Inside i NullPointer = Unit {0}
-Inside i (term.PointerTo n o) = In i o
+Inside i (term.PointerInto n o) = In i o
 
 pub inside_limit : (i : Interval) (v : TermValue) → IsLimited i → Inside i v → IsValueWithin v
 inside_limit i (Number z) l h = within i z l h
 inside_limit i NullPointer l h = tt
-inside_limit i (term.PointerTo n o) l h = within i o l h
+inside_limit i (term.PointerInto n o) l h = within i o l h
 
 pub where_defined : (i : Interval) (o : Option TermValue) → IsLimited i → ((v : TermValue) → o ≡ Some v → Inside i v) → WhereDefined o
 where_defined i None l h = tt
@@ -152,7 +155,7 @@ pub product_within : (i : Interval) (o : Option TermValue) (size : ℕ) → IsLi
 product_within i None size l h = tt
 product_within i (Some (Number z)) size l h = within (times_size i size) (z *ℤ pos size) l (in_product i (alone (pos size)) z (pos size) (h (Number z) refl) (in_alone (pos size)))
 product_within i (Some NullPointer) size l h = tt
-product_within i (Some (term.PointerTo n o)) size l h = tt
+product_within i (Some (term.PointerInto n o)) size l h = tt
 
 -- ---- values of types
 
@@ -191,8 +194,8 @@ cell_inside u (Some (Holds w)) v h e = subst (Inside (interval_of_type u)) (some
 read_inside : (reads : Reads) (u : CType) (p v : TermValue) → AreTyped reads → read_at reads u p ≡ Some v → Inside (interval_of_type u) v
 read_inside reads u (Number z) v h e = none_is v e
 read_inside reads u NullPointer v h e = none_is v e
-read_inside reads u (term.PointerTo n (negsuc o)) v h e = none_is v e
-read_inside reads u (term.PointerTo n (pos o)) v h e = by (nat_lt o (2 ^ 32)) e
+read_inside reads u (term.PointerInto n (negsuc o)) v h e = none_is v e
+read_inside reads u (term.PointerInto n (pos o)) v h e = by (nat_lt o (2 ^ 32)) e
   where
     by : (b : Bool) → cond b (value_in_cell (reads n o u)) None ≡ Some v → Inside (interval_of_type u) v
     by true e = cell_inside u (reads n o u) v (λ w. h n o u w) e
@@ -219,7 +222,7 @@ operation_inside op.Xor i j x y v h k e = none_is v e
 moved_inside : (i j : Interval) (by : ℤ) (w v : TermValue) → Inside i w → In j by → term_moved by w ≡ Some v → Inside (sum i j) v
 moved_inside i j by (Number z) v h k e = none_is v e
 moved_inside i j by NullPointer v h k e = by_cases (Some NullPointer) None v (Inside (sum i j) v) (is_zero by) (λ f. subst (Inside (sum i j)) (some_is NullPointer v f) tt) (λ f. none_is v f) e
-moved_inside i j by (term.PointerTo n o) v h k e = subst (Inside (sum i j)) (some_is (term.PointerTo n (o +ℤ by)) v e) (in_sum i j o by h k)
+moved_inside i j by (term.PointerInto n o) v h k e = subst (Inside (sum i j)) (some_is (term.PointerInto n (o +ℤ by)) v e) (in_sum i j o by h k)
 
 -- so many objects further
 pub elements_inside : (i j : Interval) (size : ℕ) (x : Option TermValue) (y : Option TermValue) (v : TermValue)
@@ -264,7 +267,7 @@ module _ (g : Setting) (a : Allowed) (s : Sight) (typed : IsTypedSight g a s) wh
     value_inside (t.Load q u) reads h k c v e =
         let m = some_of_bind (read_at reads u) (place_by s q reads) v e in read_inside reads u m.0 v h m.2
     value_inside (t.Address q u) reads h k c v e =
-        let m = address_place g a (is_register q) (place_type g a q) u k c in place_inside q reads h m.0 m.1 v e
+        let m = address_place g a (is_register_place q) (place_type g a q) u k c in place_inside q reads h m.0 m.1 v e
     value_inside (t.Neg' b (more_of-Term e end_of-Term)) reads h k c v w =
         let m = some_of_number (λ x. Some (Number (neg_ℤ x))) (value_by s e reads) v w in
         subst (Inside (negated (interval a e))) (some_is (Number (neg_ℤ m.0)) v m.2) (in_negated (interval a e) m.0 (value_inside e reads h Integer (negation_kind (term_kind g a e) k c) (Number m.0) m.1))
@@ -290,7 +293,7 @@ module _ (g : Setting) (a : Allowed) (s : Sight) (typed : IsTypedSight g a s) wh
         subst (λ o. Inside (interval_if_any o) v) (sym u.1) (subst (Inside (interval_of_type u.0)) m.3 (type_inside u.0 m.0 (typed.result f u.0 m.0 m.1 m.2 u.1)))
 
     pub place_inside : (q : TermPlace) (reads : Reads) → AreTyped reads → (u : CType) → place_type g a q ≡ Some u → (v : TermValue) → place_by s q reads ≡ Some v → Inside (interval_of_place a q) v
-    place_inside (p.Own x) reads h u c v e = subst (Inside (alone (pos 0))) (some_is (term.PointerTo (name_in s.activation x) (pos 0)) v e) (in_alone (pos 0))
+    place_inside (p.Own x) reads h u c v e = subst (Inside (alone (pos 0))) (some_is (term.PointerInto (name_in s.activation x) (pos 0)) v e) (in_alone (pos 0))
     place_inside (p.Deref' b (more_of-Term e end_of-Term)) reads h u c v w =
         let m = some_of_bind pointed_type (term_kind g a e) u c in value_inside e reads h m.0 m.1 v w
     place_inside (p.Member' b (more_of-TermPlace q end_of-TermPlace) o) reads h u c v w =
@@ -298,5 +301,5 @@ module _ (g : Setting) (a : Allowed) (s : Sight) (typed : IsTypedSight g a s) wh
         let n = some_of_bind (term_moved (pos o)) (place_by s q reads) v w in
         moved_inside (interval_of_place a q) (alone (pos o)) (pos o) n.0 v (place_inside q reads h m.0 m.1 n.0 n.1) (in_alone (pos o)) n.2
     place_inside (p.Index' b (more_of-TermPlace q end_of-TermPlace) d (more_of-Term e end_of-Term) size) reads h u c v w =
-        let m = some_of_bind (λ u. element_type g.layouts u (term_kind g a e) size) (place_type g a q) u c in
-        elements_inside (interval_of_place a q) (interval a e) size (place_by s q reads) (value_by s e reads) v (place_inside q reads h m.0 m.1) (value_inside e reads h Integer (element_kind g.layouts m.0 (term_kind g a e) size u m.2)) w
+        let m = indexed_parts g.layouts size (place_type g a q) (term_kind g a e) u c in
+        elements_inside (interval_of_place a q) (interval a e) size (place_by s q reads) (value_by s e reads) v (place_inside q reads h m.0.0 m.0.1) (value_inside e reads h Integer m.1) w

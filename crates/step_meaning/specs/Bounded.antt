@@ -1,6 +1,6 @@
 -- When a predicate or term is bounded in a view: each integer term in it that is defined there, and each offset in cells with the products that it is made of, lies from -(2 ^ 127 - 1) to 2 ^ 127 - 1.
 -- The rules on predicates see to this for every text that is accepted; the evaluation of predicates relies on it.
-use Rattle.std.specs.Prelude.{ℕ, ◌-◌, ◌^◌, ◌≤ℤ◌, ℤ, pos, ◌+ℤ◌, ◌*ℤ◌, neg_ℤ, length, All, Option, Some, None}
+use Rattle.std.specs.Prelude.{ℕ, ◌-◌, ◌^◌, ◌≤ℤ◌, ℤ, pos, ◌+ℤ◌, ◌*ℤ◌, neg_ℤ, All, Option, Some, None}
 use Rattle.step_meaning.specs.declared.predicate.Term.{Term, end_of-Term, more_of-Term}
 use Rattle.step_meaning.specs.declared.predicate.Term.TheVariants as t
 use Rattle.step_meaning.specs.declared.predicate.TermPlace.{TermPlace, end_of-TermPlace, more_of-TermPlace}
@@ -9,8 +9,8 @@ use Rattle.step_meaning.specs.declared.predicate.Location.{Location}
 use Rattle.step_meaning.specs.declared.predicate.Predicate.{Predicate, end_of-Predicate, more_of-Predicate}
 use Rattle.step_meaning.specs.declared.predicate.Predicate.TheVariants.{Not', And', Or', Implies', Iff', Relation, Valid, Separated}
 use Rattle.step_meaning.specs.Views.{Sight, Reads, now, at_enter}
-use Rattle.step_meaning.specs.Terms.{TermValue, Number, NullPointer, PointerTo, value_by, place_by, value_of}
-use Rattle.step_meaning.specs.Predicates.{denoted_types}
+use Rattle.step_meaning.specs.Terms.{TermValue, Number, NullPointer, PointerInto, value_by, place_by, value_of}
+use Rattle.step_meaning.specs.Predicates.{denoted_size}
 
 abbrev pub IsWithin : ℤ → Type 0
 IsWithin z = (neg_ℤ (pos (2 ^ 127 - 1)) ≤ℤ z) × (z ≤ℤ pos (2 ^ 127 - 1))
@@ -19,7 +19,7 @@ IsWithin z = (neg_ℤ (pos (2 ^ 127 - 1)) ≤ℤ z) × (z ≤ℤ pos (2 ^ 127 - 
 abbrev pub IsValueWithin : TermValue → Type 0
 IsValueWithin (Number z) = IsWithin z
 IsValueWithin NullPointer = Unit {0}
-IsValueWithin (PointerTo n o) = IsWithin o
+IsValueWithin (PointerInto n o) = IsWithin o
 
 abbrev pub WhereDefined : Option TermValue → Type 0
 WhereDefined None = Unit {0}
@@ -59,7 +59,7 @@ module _ (s : Sight) where
 
   -- the cells of a location `p + (a .. b)` have the offsets from p plus a objects up to p plus b + 1 objects
   abbrev pub EndsWithin : Option TermValue → Option TermValue → Option TermValue → ℕ → Type 0
-  EndsWithin (Some (PointerTo n o)) (Some (Number a)) (Some (Number b)) size =
+  EndsWithin (Some (PointerInto n o)) (Some (Number a)) (Some (Number b)) size =
       IsWithin (a *ℤ pos size) × IsWithin ((b +ℤ pos 1) *ℤ pos size) × IsWithin (o +ℤ (a *ℤ pos size)) × IsWithin (o +ℤ ((b +ℤ pos 1) *ℤ pos size))
   EndsWithin _ _ _ size = Unit {0}
 
@@ -68,7 +68,7 @@ module _ (s : Sight) where
   SpanBounded base (Some e) size = TermBounded e.0 (now s) × TermBounded e.1 (now s) × EndsWithin base (value_of s e.0) (value_of s e.1) size
 
   abbrev pub LocationBounded : Location → Type 0
-  LocationBounded l = TermBounded l.base (now s) × SpanBounded (value_of s l.base) l.span (length (denoted_types s.layouts l.ctype))
+  LocationBounded l = TermBounded l.base (now s) × SpanBounded (value_of s l.base) l.span (denoted_size s.layouts l.ctype)
 
   abbrev mutual
     pub IsBounded : Predicate → Type 0

@@ -5,7 +5,6 @@ use Rattle.step_meaning.specs.declared.value.IntKind.{IntKind}
 use Rattle.step_meaning.specs.declared.value.IntKind.TheVariants as kind
 use Rattle.step_meaning.specs.declared.value.CType.{CType, end_of-CType, more_of-CType}
 use Rattle.step_meaning.specs.declared.value.CType.TheVariants as type
-use Rattle.step_meaning.specs.declared.value.NameKind.TheVariants.{Register}
 use Rattle.step_meaning.specs.declared.expr.IntOp.{IntOp}
 use Rattle.step_meaning.specs.declared.expr.IntOp.TheVariants as op
 use Rattle.step_meaning.specs.declared.expr.CompareOp.{CompareOp}
@@ -20,24 +19,19 @@ use Rattle.step_meaning.specs.declared.expr.Expr.{Expr, Row_of-Expr, end_of-Expr
 use Rattle.step_meaning.specs.declared.expr.Expr.TheVariants.{Literal, Null, Load, Address, Convert', Unary', Binary', Compare', Move', Difference', Not', Both', Either', Choose', Assign', Update', Invoke', GetChar, PutChar', Discard', Own, Deref', Member', Index'}
 use Rattle.step_meaning.specs.declared.expr.Place_.{Place_, end_of-Place_, more_of-Place_}
 use Rattle.step_meaning.specs.declared.program.Layout.{Layout}
-use Rattle.step_meaning.specs.declared.program.Declared.{Declared}
 use Rattle.step_meaning.specs.declared.program.Function.{Function}
 use Rattle.step_meaning.specs.declared.program.Core.{Core}
 use Rattle.step_meaning.specs.Numbers.{is_in_range}
-use Rattle.step_meaning.specs.Names.{same_kind}
-use Rattle.step_meaning.specs.Types.{same_type}
+use Rattle.step_meaning.specs.Names.{is_register_variable}
+use Rattle.step_meaning.specs.Types.{same_type, where_true}
 use Rattle.step_meaning.specs.Settings.{Setting, variable_type}
 use Rattle.step_meaning.specs.Conversions.{same_int_kind, is_promoted, promoted, common}
-use Rattle.step_meaning.specs.TypeRules.{cells, is_scalar, member_at}
+use Rattle.step_meaning.specs.TypeRules.{cells, is_scalar, member_type, element_type}
 
 -- ---- types
 
 abbrev pub pointer_to : CType → CType
 pointer_to t = type.Pointer' tt (more_of-CType t end_of-CType)
-
--- a type where a condition is met, and none elsewhere
-abbrev pub where_true : Bool → CType → Option CType
-where_true b t = if b then Some t else None
 
 abbrev pub is_void : CType → Bool
 is_void type.Void = true
@@ -69,9 +63,9 @@ has_scalar_type None = false
 -- ---- null pointer constants
 
 -- as a pointer, `(void *) 0` has the type pointer to void by itself, and takes the place of a pointer of any type (C11 6.3.2.3, 3)
-abbrev pub is_null : Expr → Bool
-is_null Null = true
-is_null _ = false
+abbrev pub is_null_constant : Expr → Bool
+is_null_constant Null = true
+is_null_constant _ = false
 
 -- ---- operators
 
@@ -101,7 +95,7 @@ are_of_one_pointer _ b = false
 
 -- an expression with this type beside a null pointer constant
 abbrev pub is_pointer_beside_null : Expr → Option CType → Bool
-is_pointer_beside_null e b = is_null e && has_pointer_type b
+is_pointer_beside_null e b = is_null_constant e && has_pointer_type b
 
 abbrev pub is_equality : CompareOp → Bool
 is_equality comparing.Equal = true
@@ -150,7 +144,7 @@ choice_type e a f b =
 
 -- an expression that a place of this type takes: of its own type, or a null pointer constant for a pointer (C11 6.5.16.1, 1). Integers are converted before
 abbrev pub is_taken_by : CType → Expr → Option CType → Bool
-is_taken_by t e a = is_scalar t && (has_this_type t a || (is_null e && has_pointer_type (Some t)))
+is_taken_by t e a = is_scalar t && (has_this_type t a || (is_null_constant e && has_pointer_type (Some t)))
 
 -- the `int` 1 brought to the kind, as `++` and `--` add and subtract it (C11 6.5.2.4, 6.5.3.1)
 abbrev pub is_one_of : IntKind → Expr → Bool
@@ -184,25 +178,16 @@ abbrev pub pointed_to : Option CType → Option CType
 pointed_to (Some (type.Pointer' p (more_of-CType t end_of-CType))) = where_true (not (is_void t)) t
 pointed_to _ = None
 
-abbrev pub members_of : List Layout → ℕ → List Declared
-members_of layouts n = fields (slice_get layouts n)
-  where
-    fields : Option Layout → List Declared
-    fields None = []
-    fields (Some l) = l.members
+-- a member of what has this type, which is a struct
+abbrev pub type_of_member : List Layout → ℕ → Option CType → Option CType
+type_of_member layouts o a = option_and_then (λ t. member_type layouts t o) a
 
--- the member of a struct at an offset (C11 6.5.2.3)
-abbrev pub member_type : List Layout → ℕ → Option CType → Option CType
-member_type layouts o (Some (type.Struct n)) = member_at layouts (members_of layouts n) o
-member_type layouts o _ = None
-
--- the element of an array, of so many cells, at an integer (C11 6.5.2.1)
-abbrev pub element_type : List Layout → ℕ → Option CType → Option CType → Option CType
-element_type layouts size (Some (type.Array' p (more_of-CType t end_of-CType) n)) i = where_true (size == cells layouts t && has_integer_type i) t
-element_type layouts size _ i = None
+-- an element of what has this type, which is an array, at an integer
+abbrev pub type_of_element : List Layout → ℕ → Option CType → Option CType → Option CType
+type_of_element layouts size a i = if has_integer_type i then option_and_then (λ t. element_type layouts t size) a else None
 
 abbrev pub is_register : Place_ → Bool
-is_register (Own v) = same_kind v.kind Register
+is_register (Own v) = is_register_variable v
 is_register _ = false
 
 -- what is pointed to by the address of an object of a type: the object, or the first element of an array that is used as a value (C11 6.3.2.1, 3; 6.5.3.2, 3)
@@ -268,8 +253,8 @@ module _ (q : Core) (g : Setting) where
     type_of_place (Own v) = variable_type g v
     -- (C11 6.5.3.2, 4)
     type_of_place (Deref' b (more_of-Expr e end_of-Expr)) = pointed_to (type_of e)
-    type_of_place (Member' b (more_of-Place_ p end_of-Place_) o) = member_type g.layouts o (type_of_place p)
-    type_of_place (Index' b (more_of-Place_ p end_of-Place_) c (more_of-Expr e end_of-Expr) size) = element_type g.layouts size (type_of_place p) (type_of e)
+    type_of_place (Member' b (more_of-Place_ p end_of-Place_) o) = type_of_member g.layouts o (type_of_place p)
+    type_of_place (Index' b (more_of-Place_ p end_of-Place_) c (more_of-Expr e end_of-Expr) size) = type_of_element g.layouts size (type_of_place p) (type_of e)
 
     -- the parameters of these types take the arguments, one each
     pub are_arguments : {n : _} → Row_of-Expr n → List CType → Bool

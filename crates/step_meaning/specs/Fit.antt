@@ -25,7 +25,7 @@ use Rattle.step_meaning.specs.declared.program.HookPlace.{HookPlace}
 use Rattle.step_meaning.specs.declared.program.HookPlace.TheVariants as place
 use Rattle.step_meaning.specs.Settings.{Setting}
 use Rattle.step_meaning.specs.Traced.{IsFunctionOf}
-use Rattle.step_meaning.specs.TypeRules.{keeps_rules}
+use Rattle.step_meaning.specs.TypeRules.{is_scalar, keeps_rules}
 use Rattle.step_meaning.specs.TermSizes.{type_depth, ghost_depth, term_nodes_as_read, predicate_nodes_as_read}
 use Rattle.step_meaning.specs.TermParts.{Conditions, no_condition, EachInTerm, EachInPredicate, EachInCode}
 use Rattle.step_meaning.specs.Allowances.{Allowed, nothing_else, type_of_parameter, type_of_result}
@@ -33,11 +33,6 @@ use Rattle.step_meaning.specs.Annotations.{PredicateFits, GhostFits, IsGhostKind
 use Rattle.step_meaning.specs.Fold.{saves_of}
 
 -- ---- ghost variables
-
-abbrev pub IsScalarType : CType → Type 0
-IsScalarType (type.Int k) = Unit {0}
-IsScalarType (type.Pointer' b u) = Unit {0}
-IsScalarType _ = ⊥
 
 -- a type names no structs but those with these layouts
 abbrev pub NamesLayouts : List Layout → CType → Type 0
@@ -48,7 +43,7 @@ NamesLayouts layouts _ = Unit {0}
 
 -- a scalar whose type names the core's structs alone, keeps the rules on types, and nests at most 100 deep
 pub record IsGhostOf (q : Core) (d : Declared) : Type 0 where
-  pub scalar : IsScalarType d.ctype
+  pub scalar : IsTrue (is_scalar d.ctype)
   pub layouts : NamesLayouts q.layouts d.ctype
   pub rules : IsTrue (keeps_rules q.layouts d.ctype)
   pub depth : type_depth d.ctype ≤ 100
@@ -214,10 +209,10 @@ IsSmallTerm e = term_nodes_as_read e ≤ 900
 abbrev pub IsSmallPredicate : Predicate → Type 0
 IsSmallPredicate r = predicate_nodes_as_read r ≤ 900
 
-abbrev pub StatementFits : Setting → Allowed → Stmt → Type 0
-StatementFits g a (Ghost s) = GhostFits g a s
-StatementFits g a (Assert k m r) = PredicateFits g a r
-StatementFits g a s = Unit {0}
+abbrev pub HookStatementFits : Setting → Allowed → Stmt → Type 0
+HookStatementFits g a (Ghost s) = GhostFits g a s
+HookStatementFits g a (Assert k m r) = PredicateFits g a r
+HookStatementFits g a s = Unit {0}
 
 -- ---- hooks that fit
 
@@ -235,7 +230,7 @@ pub record PointFits (q : Core) (h : Hooks) (pt : HookPoint) : Type 0 where
   pub depth : AllByRecursion IsShallow pt.code
   pub size : EachInCode (λ v e. IsSmallTerm e) IsSmallPredicate pt.code
   -- kinds, integer constants and intervals
-  pub fits : AllByRecursion (StatementFits (hook_setting q h pt.function) (hook_allowed q pt)) pt.code
+  pub fits : AllByRecursion (HookStatementFits (hook_setting q h pt.function) (hook_allowed q pt)) pt.code
 
 pub record Fit (q : Core) (h : Hooks) : Type 0 where
   pub globals : AllByRecursion (IsGhostOf q) h.globals

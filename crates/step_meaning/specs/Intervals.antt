@@ -1,7 +1,7 @@
 -- Intervals of terms: an interval that holds each value that an integer term may have, and each offset in cells that a pointer term may have.
 -- The interval of a variable is that of its type; that of an operation is computed from the ends of its operands' intervals.
 -- The limit of every integer term, of every offset in cells and of each product of a number and a size is -(2 ^ 127 - 1) to 2 ^ 127 - 1.
-use Rattle.std.specs.Prelude.{ℕ, ◌^◌, ◌-◌, ℤ, pos, ◌+ℤ◌, ◌-ℤ◌, ◌*ℤ◌, neg_ℤ, List, length, Option, Some, None}
+use Rattle.std.specs.Prelude.{ℕ, ◌^◌, ◌-◌, ℤ, pos, ◌+ℤ◌, ◌-ℤ◌, ◌*ℤ◌, neg_ℤ, List, Option, Some, None}
 use Rattle.std.specs.List.{AllByRecursion}
 use Rattle.std.specs.Int.{int_min, int_max}
 use Rattle.step_meaning.specs.declared.value.IntKind.{IntKind}
@@ -18,7 +18,7 @@ use Rattle.step_meaning.specs.declared.predicate.Predicate.{Predicate, end_of-Pr
 use Rattle.step_meaning.specs.declared.predicate.Predicate.TheVariants.{Not', And', Or', Implies', Iff', Relation, Valid, Separated}
 use Rattle.step_meaning.specs.declared.program.Layout.{Layout}
 use Rattle.step_meaning.specs.Numbers.{least, greatest}
-use Rattle.step_meaning.specs.Predicates.{denoted_types}
+use Rattle.step_meaning.specs.Predicates.{denoted_size}
 use Rattle.step_meaning.specs.Bounded.{IsWithin}
 use Rattle.step_meaning.specs.Allowances.{Allowed}
 
@@ -148,7 +148,7 @@ module _ (a : Allowed) where
   RangeLimited i (Some e) size = TermLimited e.0 × TermLimited e.1 × SpanLimited i (interval e.0) (interval e.1) size
 
   abbrev pub LocationLimited : List Layout → Location → Type 0
-  LocationLimited layouts l = TermLimited l.base × RangeLimited (interval l.base) l.span (length (denoted_types layouts l.ctype))
+  LocationLimited layouts l = TermLimited l.base × RangeLimited (interval l.base) l.span (denoted_size layouts l.ctype)
 
   -- each term and each location of the predicate keeps the limit
   abbrev mutual

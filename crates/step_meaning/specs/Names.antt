@@ -22,6 +22,10 @@ same_kind names.GhostGlobal names.GhostGlobal = true
 same_kind names.GhostLocal names.GhostLocal = true
 same_kind _ _ = false
 
+-- a variable that is declared `register`
+abbrev pub is_register_variable : Variable → Bool
+is_register_variable v = same_kind v.kind names.Register
+
 abbrev pub same_name : Name → Name → Bool
 same_name n m = same_kind n.kind m.kind && (n.activation == m.activation && n.index == m.index)
 

@@ -19,7 +19,7 @@ use Rattle.step_meaning.specs.Numbers.{compared_integers}
 use Rattle.step_meaning.specs.Names.{same_name}
 use Rattle.step_meaning.specs.Types.{object_cells}
 use Rattle.step_meaning.specs.Views.{Sight, now}
-use Rattle.step_meaning.specs.Terms.{TermValue, Number, NullPointer, PointerTo, value_of}
+use Rattle.step_meaning.specs.Terms.{TermValue, Number, NullPointer, PointerInto, value_of}
 
 -- ---- relations
 
@@ -31,7 +31,7 @@ is_unequal _ = false
 abbrev pub related_values : CompareOp → TermValue → TermValue → Bool
 related_values c (Number a) (Number b) = compared_integers c a b
 related_values c NullPointer NullPointer = compared_integers c (pos 0) (pos 0)
-related_values c (PointerTo n o) (PointerTo m i) = if same_name n m then compared_integers c o i else is_unequal c
+related_values c (PointerInto n o) (PointerInto m i) = if same_name n m then compared_integers c o i else is_unequal c
 related_values c _ _ = is_unequal c
 
 abbrev pub related : CompareOp → Option TermValue → Option TermValue → Bool
@@ -50,6 +50,10 @@ pub record Denoted : Type 0 where
 abbrev pub denoted_types : List Layout → CType → List CType
 denoted_types layouts Void = Void ∷ []
 denoted_types layouts u = object_cells layouts u
+
+-- the cells of an object at a pointer, by which the pointer moves
+abbrev pub denoted_size : List Layout → CType → ℕ
+denoted_size layouts u = length (denoted_types layouts u)
 
 -- the cells of an object with these cell types from an offset on
 abbrev pub object_at : Name → ℤ → List CType → List Denoted
@@ -71,7 +75,7 @@ count_from_to a b = at_least_zero ((b -ℤ a) +ℤ pos 1)
 
 -- the cells of the objects from a to b at a pointer, none where a is above b; null denotes no cells
 abbrev pub objects_from : TermValue → ℤ → ℤ → List CType → Option (List Denoted)
-objects_from (PointerTo n o) a b us = Some (objects_at n (o +ℤ (a *ℤ pos (length us))) us (count_from_to a b))
+objects_from (PointerInto n o) a b us = Some (objects_at n (o +ℤ (a *ℤ pos (length us))) us (count_from_to a b))
 objects_from NullPointer a b us = Some []
 objects_from (Number z) a b us = None
 

@@ -1,5 +1,5 @@
 -- What the parts of a core may name: the variables that are in view, by their kinds and numbers, and the structs (C11 6.2.1).
-use Rattle.std.specs.Prelude.{ℕ, List, [], take, slice_get, Option, option_map}
+use Rattle.std.specs.Prelude.{List, [], take, slice_get, Option, option_map}
 use Rattle.step_meaning.specs.declared.value.CType.{CType}
 use Rattle.step_meaning.specs.declared.value.NameKind.{NameKind}
 use Rattle.step_meaning.specs.declared.value.NameKind.TheVariants as names

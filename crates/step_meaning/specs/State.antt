@@ -2,14 +2,13 @@
 -- Registers and ghost variables are no memory: they stand apart from it, so that the memory of a step has the program's own variables alone.
 use Rattle.std.specs.Prelude.{ℕ, zero, suc, cond, List, [], ◌∷◌, map, slice_get, Option}
 use Rattle.step_meaning.specs.declared.value.CType.{CType}
-use Rattle.step_meaning.specs.declared.value.NameKind.TheVariants.{Register}
 use Rattle.step_meaning.specs.declared.value.Value.{Value}
 use Rattle.step_meaning.specs.declared.value.Value.TheVariants as value
 use Rattle.step_meaning.specs.declared.value.Cell.{Cell}
 use Rattle.step_meaning.specs.declared.value.Cell.TheVariants.{Nothing, Holds}
 use Rattle.step_meaning.specs.declared.expr.Variable.{Variable}
 use Rattle.step_meaning.specs.declared.program.Declared.{Declared}
-use Rattle.step_meaning.specs.Names.{same_kind, name_in}
+use Rattle.step_meaning.specs.Names.{is_register_variable, name_in}
 use Rattle.step_meaning.specs.Memory.{Memory, Slot, typed}
 
 pub record State : Type 0 where
@@ -50,4 +49,4 @@ pub data Lvalue : Type 0 where
 
 -- what a variable of the text with an offset designates
 abbrev pub designated : ℕ → Variable → ℕ → Lvalue
-designated activation v o = cond (same_kind v.kind Register) (InRegister v.index) (At (value.Pointer (name_in activation v) o))
+designated activation v o = cond (is_register_variable v) (InRegister v.index) (At (value.Pointer (name_in activation v) o))

@@ -1,6 +1,6 @@
 -- Kinds of terms, places, locations and predicates (ACSL, terms; typing; memory locations): a term is an integer or a pointer to a type, and null is a pointer to any type.
 -- A term or place that breaks a rule has no kind.
-use Rattle.std.specs.Prelude.{◌≡◌, ◌⊎◌, ℕ, ◌≤◌, ◌+◌, ◌^◌, nat_lt, Bool, true, false, not, ◌&&◌, ◌||◌, if◌then◌else◌, ◌==◌, ℤ, pos, negsuc, IsTrue, List, [], ◌∷◌, length, slice_get, Option, Some, None, option_and_then}
+use Rattle.std.specs.Prelude.{◌≡◌, ◌⊎◌, ℕ, ◌≤◌, ◌^◌, nat_lt, Bool, true, false, not, ◌&&◌, ◌||◌, if◌then◌else◌, ◌==◌, ℤ, pos, negsuc, IsTrue, List, length, Option, Some, None, option_and_then}
 use Rattle.std.specs.List.{AllByRecursion}
 use Rattle.step_meaning.specs.declared.value.CType.{CType, end_of-CType, more_of-CType}
 use Rattle.step_meaning.specs.declared.value.CType.TheVariants as type
@@ -18,9 +18,10 @@ use Rattle.step_meaning.specs.declared.predicate.Location.{Location}
 use Rattle.step_meaning.specs.declared.predicate.Predicate.{Predicate, end_of-Predicate, more_of-Predicate}
 use Rattle.step_meaning.specs.declared.predicate.Predicate.TheVariants.{True, False, Not', And', Or', Implies', Iff', Relation, Valid, Separated, Called, Event as IsEvent}
 use Rattle.step_meaning.specs.declared.program.Layout.{Layout}
-use Rattle.step_meaning.specs.declared.program.Declared.{Declared}
-use Rattle.step_meaning.specs.Types.{same_type, object_cells}
-use Rattle.step_meaning.specs.Predicates.{denoted_types}
+use Rattle.step_meaning.specs.Names.{is_register_variable}
+use Rattle.step_meaning.specs.Types.{same_type, where_true}
+use Rattle.step_meaning.specs.TypeRules.{member_type, element_type}
+use Rattle.step_meaning.specs.Predicates.{denoted_size}
 use Rattle.step_meaning.specs.Settings.{Setting, variable_type}
 use Rattle.step_meaning.specs.Allowances.{Allowed}
 
@@ -39,30 +40,15 @@ kind_of_type (type.Int k) = Some Integer
 kind_of_type (type.Pointer' b (more_of-CType u end_of-CType)) = Some (PointerTo u)
 kind_of_type _ = None
 
-abbrev pub where_true : {A : Type 0} → Bool → Option A → Option A
-where_true true o = o
-where_true false o = None
+abbrev pub is_integer : Option Kind → Bool
+is_integer (Some Integer) = true
+is_integer _ = false
 
 -- ---- objects
 
--- the cells of an object; `void`, behind `\null` alone, stands for one
-abbrev pub size_of : List Layout → CType → ℕ
-size_of layouts u = length (denoted_types layouts u)
-
--- the type of the member at this offset, where the first of these stands at offset `at`
-abbrev pub member_from : List Layout → List Declared → ℕ → ℕ → Option CType
-member_from layouts [] at offset = None
-member_from layouts (d ∷ ds) at offset = if at == offset then Some d.ctype else member_from layouts ds (at + length (object_cells layouts d.ctype)) offset
-
--- `.` takes a struct (C11 6.5.2.3): the type of its member at this offset
-abbrev pub member_type : List Layout → CType → ℕ → Option CType
-member_type layouts (type.Struct n) offset = option_and_then (λ l. member_from layouts l.members 0 offset) (slice_get layouts n)
-member_type layouts _ offset = None
-
--- `[ ]` takes an array and an integer (C11 6.5.2.1): the type of an element, whose size in cells is given
-abbrev pub element_type : List Layout → CType → Option Kind → ℕ → Option CType
-element_type layouts (type.Array' b (more_of-CType u end_of-CType) n) (Some Integer) size = where_true (size_of layouts u == size) (Some u)
-element_type layouts _ _ size = None
+-- `[ ]` takes an array, whose elements have so many cells, and an integer (C11 6.5.2.1)
+abbrev pub indexed_type : List Layout → ℕ → Option CType → Option Kind → Option CType
+indexed_type layouts size a i = if is_integer i then option_and_then (λ u. element_type layouts u size) a else None
 
 -- `*` takes a pointer to an object (C11 6.5.3.2), and no pointer to `void`
 abbrev pub pointed_type : Kind → Option CType
@@ -91,13 +77,13 @@ kind_of_negation (Some Integer) = Some Integer
 kind_of_negation _ = None
 
 abbrev pub kind_of_operation : IntOp → Option Kind → Option Kind → Option Kind
-kind_of_operation o (Some Integer) (Some Integer) = where_true (is_term_operator o) (Some Integer)
+kind_of_operation o (Some Integer) (Some Integer) = where_true (is_term_operator o) Integer
 kind_of_operation o _ _ = None
 
 -- a pointer plus an integer, in objects of so many cells; null stands for a pointer to `void`, whose objects have one
 abbrev pub kind_of_move : List Layout → Option Kind → Option Kind → ℕ → Option Kind
-kind_of_move layouts (Some (PointerTo u)) (Some Integer) size = where_true (size_of layouts u == size) (Some (PointerTo u))
-kind_of_move layouts (Some AnyNull) (Some Integer) size = where_true (size_of layouts type.Void == size) (Some (PointerTo type.Void))
+kind_of_move layouts (Some (PointerTo u)) (Some Integer) size = where_true (denoted_size layouts u == size) (PointerTo u)
+kind_of_move layouts (Some AnyNull) (Some Integer) size = where_true (denoted_size layouts type.Void == size) (PointerTo type.Void)
 kind_of_move layouts _ _ size = None
 
 -- an integer constant of a term: 0 to 2 ^ 64 - 1
@@ -106,13 +92,9 @@ is_constant (pos n) = nat_lt n (2 ^ 64)
 is_constant (negsuc n) = false
 
 -- a register has no address (C11 6.7.1, 6)
-abbrev pub is_register : TermPlace → Bool
-is_register (p.Own v) = is_register_kind v.kind
-  where
-    is_register_kind : NameKind → Bool
-    is_register_kind names.Register = true
-    is_register_kind _ = false
-is_register _ = false
+abbrev pub is_register_place : TermPlace → Bool
+is_register_place (p.Own v) = is_register_variable v
+is_register_place _ = false
 
 -- a literal index of an array that is in its range
 abbrev pub is_literal_index : Option CType → Term → Bool
@@ -127,25 +109,25 @@ is_file_variable _ = false
 
 module _ (g : Setting) (a : Allowed) where
   abbrev pub address_kind : Bool → Option CType → CType → Option Kind
-  address_kind no_address (Some u) w = where_true (not no_address && is_address_type u w) (Some (PointerTo w))
+  address_kind no_address (Some u) w = where_true (not no_address && is_address_type u w) (PointerTo w)
   address_kind no_address None w = None
 
   -- a read gives an integer or a pointer, of the place's type
   abbrev pub kind_of_read : Option CType → CType → Option Kind
-  kind_of_read (Some u) w = where_true (same_type u w) (kind_of_type w)
+  kind_of_read (Some u) w = if same_type u w then kind_of_type w else None
   kind_of_read None w = None
 
   abbrev mutual
     pub term_kind : Term → Option Kind
-    term_kind (t.Int z) = where_true (is_constant z) (Some Integer)
+    term_kind (t.Int z) = where_true (is_constant z) Integer
     term_kind t.Null = Some AnyNull
     term_kind (t.Load q w) = kind_of_read (place_type q) w
-    term_kind (t.Address q w) = address_kind (is_register q) (place_type q) w
+    term_kind (t.Address q w) = address_kind (is_register_place q) (place_type q) w
     term_kind (t.Neg' b (more_of-Term e end_of-Term)) = kind_of_negation (term_kind e)
     term_kind (t.Arith' o b (more_of-Term e end_of-Term) c (more_of-Term f end_of-Term)) = kind_of_operation o (term_kind e) (term_kind f)
     term_kind (t.Move' b (more_of-Term e end_of-Term) c (more_of-Term f end_of-Term) size) = kind_of_move g.layouts (term_kind e) (term_kind f) size
-    term_kind (t.AtPre q w) = where_true (a.at_enter && is_fixed_place q) (kind_of_read (place_type q) w)
-    term_kind t.Accessed = where_true a.accessed (Some OfAccess)
+    term_kind (t.AtPre q w) = if a.at_enter && is_fixed_place q then kind_of_read (place_type q) w else None
+    term_kind t.Accessed = where_true a.accessed OfAccess
     term_kind (t.Parameter f i) = option_and_then kind_of_type (a.parameter_type f i)
     term_kind (t.Result f) = option_and_then kind_of_type (a.result_type f)
 
@@ -154,7 +136,7 @@ module _ (g : Setting) (a : Allowed) where
     place_type (p.Own v) = variable_type g v
     place_type (p.Deref' b (more_of-Term e end_of-Term)) = option_and_then pointed_type (term_kind e)
     place_type (p.Member' b (more_of-TermPlace q end_of-TermPlace) o) = option_and_then (λ u. member_type g.layouts u o) (place_type q)
-    place_type (p.Index' b (more_of-TermPlace q end_of-TermPlace) c (more_of-Term e end_of-Term) size) = option_and_then (λ u. element_type g.layouts u (term_kind e) size) (place_type q)
+    place_type (p.Index' b (more_of-TermPlace q end_of-TermPlace) c (more_of-Term e end_of-Term) size) = indexed_type g.layouts size (place_type q) (term_kind e)
 
     -- the inside of `\at(.., Pre)`: a variable of file scope with members and literal indices in range
     pub is_fixed_place : TermPlace → Bool

@@ -23,19 +23,19 @@ use Rattle.step_meaning.specs.Views.{Sight, Reads, now, at_enter}
 pub data TermValue : Type 0 where
   Number : ℤ → TermValue
   NullPointer : TermValue
-  PointerTo : Name → ℤ → TermValue
+  PointerInto : Name → ℤ → TermValue
 
 abbrev pub term_value : Value → TermValue
 term_value (value.Int z) = Number z
 term_value value.Null = NullPointer
-term_value (value.Pointer n o) = PointerTo n (pos o)
+term_value (value.Pointer n o) = PointerInto n (pos o)
 
 -- the value of a term as a value of a cell, which has an offset from 0 to 2 ^ 32 - 1
 abbrev pub scalar_value : TermValue → Option Value
 scalar_value (Number z) = Some (value.Int z)
 scalar_value NullPointer = Some value.Null
-scalar_value (PointerTo n (negsuc o)) = None
-scalar_value (PointerTo n (pos o)) = if nat_lt o (2 ^ 32) then Some (value.Pointer n o) else None
+scalar_value (PointerInto n (negsuc o)) = None
+scalar_value (PointerInto n (pos o)) = if nat_lt o (2 ^ 32) then Some (value.Pointer n o) else None
 
 -- ---- parts of terms
 
@@ -61,7 +61,7 @@ term_operation _ a b = None
 
 -- a pointer moved by a number of cells
 abbrev pub term_moved : ℤ → TermValue → Option TermValue
-term_moved by (PointerTo n o) = Some (PointerTo n (o +ℤ by))
+term_moved by (PointerInto n o) = Some (PointerInto n (o +ℤ by))
 term_moved by NullPointer = if is_zero by then Some NullPointer else None
 term_moved by (Number z) = None
 
@@ -71,7 +71,7 @@ value_in_cell _ = None
 
 -- a read at this type of what a pointer designates. No variable has as many as 2 ^ 32 cells
 abbrev pub read_at : Reads → CType → TermValue → Option TermValue
-read_at reads u (PointerTo n (pos o)) = if nat_lt o (2 ^ 32) then value_in_cell (reads n o u) else None
+read_at reads u (PointerInto n (pos o)) = if nat_lt o (2 ^ 32) then value_in_cell (reads n o u) else None
 read_at reads u _ = None
 
 -- the argument with number i, where the step is an Enter of function f
@@ -105,7 +105,7 @@ module _ (s : Sight) where
 
     -- the pointer to what a place designates
     pub place_by : TermPlace → Reads → Option TermValue
-    place_by (p.Own v) reads = Some (PointerTo (name_in s.activation v) (pos 0))
+    place_by (p.Own v) reads = Some (PointerInto (name_in s.activation v) (pos 0))
     place_by (p.Deref' b (more_of-Term e end_of-Term)) reads = value_by e reads
     place_by (p.Member' b (more_of-TermPlace q end_of-TermPlace) o) reads = with_value (place_by q reads) (term_moved (pos o))
     place_by (p.Index' b (more_of-TermPlace q end_of-TermPlace) c (more_of-Term e end_of-Term) size) reads = with_value (place_by q reads) (λ x. with_number (value_by e reads) (λ i. term_moved (i *ℤ pos size) x))

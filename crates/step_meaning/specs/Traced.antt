@@ -11,14 +11,13 @@ use Rattle.step_meaning.specs.declared.value.Cell.{Cell}
 use Rattle.step_meaning.specs.declared.value.Cell.TheVariants.{Nothing, Holds}
 use Rattle.step_meaning.specs.declared.value.Action.{Action}
 use Rattle.step_meaning.specs.declared.value.Action.TheVariants as act
-use Rattle.step_meaning.specs.declared.stmt.Stmt.{Stmt}
 use Rattle.step_meaning.specs.declared.program.Core.{Core}
 use Rattle.step_meaning.specs.declared.program.Function.{Function}
 use Rattle.step_meaning.specs.Numbers.{is_in_range}
 use Rattle.step_meaning.specs.Memory.{Memory, Frame, Slot, Block, frame_of}
 use Rattle.step_meaning.specs.Steps.{Step}
 use Rattle.step_meaning.specs.Limits.{is_enter}
-use Rattle.step_meaning.specs.ExpressionTypes.{parameter_types}
+use Rattle.step_meaning.specs.ExpressionTypes.{has_body, parameter_types}
 
 -- ---- values
 
@@ -95,13 +94,9 @@ AccessesPointer (act.Read p) = IsPointer p
 AccessesPointer (act.Write p v) = IsPointer p
 AccessesPointer _ = Unit {0}
 
-abbrev pub HasBody : Option (List Stmt) → Type 0
-HasBody None = ⊥
-HasBody (Some body) = Unit {0}
-
 -- the function with a body that executes the step
 abbrev pub IsFunctionOf : Core → ℕ → Function → Type 0
-IsFunctionOf q g f = (slice_get q.functions g ≡ Some f) × HasBody f.body
+IsFunctionOf q g f = (slice_get q.functions g ≡ Some f) × IsTrue (has_body f)
 
 -- a function has a result exactly where its type isn't `void`
 abbrev pub ResultHasType : CType → Option Value → Type 0

@@ -1,12 +1,12 @@
 -- Rules on types (C11 6.2.5, 6.7.2.1, 6.7.6.1, 6.7.6.2), with the limit of 65,536 cells on an array and on a struct.
 -- A type is judged where the structs of `layouts` are complete, and those with numbers below `declared` may stand behind a pointer: in the definition of a struct, that struct besides.
-use Rattle.std.specs.Prelude.{ℕ, zero, suc, ◌-◌, Bool, true, false, ◌&&◌, nat_lt, nat_le, if◌then◌else◌, List, [], ◌∷◌, ◌++◌, length, sum_by, Option, Some, None}
+use Rattle.std.specs.Prelude.{ℕ, suc, ◌+◌, Bool, true, false, ◌&&◌, ◌==◌, nat_lt, nat_le, if◌then◌else◌, List, [], ◌∷◌, ◌++◌, length, sum_by, slice_get, Option, Some, None, option_and_then}
 use Rattle.std.specs.List.{list_all}
 use Rattle.step_meaning.specs.declared.value.CType.{CType, end_of-CType, more_of-CType}
 use Rattle.step_meaning.specs.declared.value.CType.TheVariants.{Void, Int, Pointer', Array', Struct}
 use Rattle.step_meaning.specs.declared.program.Layout.{Layout}
 use Rattle.step_meaning.specs.declared.program.Declared.{Declared}
-use Rattle.step_meaning.specs.Types.{object_cells}
+use Rattle.step_meaning.specs.Types.{where_true, object_cells}
 
 -- the cells of an object of the type
 abbrev pub cells : List Layout → CType → ℕ
@@ -73,10 +73,19 @@ abbrev pub is_result_type : List Layout → CType → Bool
 is_result_type layouts Void = true
 is_result_type layouts t = is_scalar_type layouts t && is_spelled t
 
--- ---- members
+-- ---- parts of objects
 
--- the type of the member before which the members have so many cells together
-abbrev pub member_at : List Layout → List Declared → ℕ → Option CType
-member_at layouts [] o = None
-member_at layouts (d ∷ ds) zero = Some d.ctype
-member_at layouts (d ∷ ds) (suc o) = if nat_le (cells layouts d.ctype) (suc o) then member_at layouts ds (suc o - cells layouts d.ctype) else None
+-- the type of the member at this offset, where the first of these stands at offset `at`
+abbrev pub member_from : List Layout → List Declared → ℕ → ℕ → Option CType
+member_from layouts [] at offset = None
+member_from layouts (d ∷ ds) at offset = if at == offset then Some d.ctype else member_from layouts ds (at + cells layouts d.ctype) offset
+
+-- the type of the member of a struct at this offset (C11 6.5.2.3)
+abbrev pub member_type : List Layout → CType → ℕ → Option CType
+member_type layouts (Struct n) offset = option_and_then (λ l. member_from layouts l.members 0 offset) (slice_get layouts n)
+member_type layouts _ offset = None
+
+-- the type of the elements of an array, each of so many cells (C11 6.5.2.1)
+abbrev pub element_type : List Layout → CType → ℕ → Option CType
+element_type layouts (Array' b (more_of-CType t end_of-CType) n) size = where_true (size == cells layouts t) t
+element_type layouts _ size = None

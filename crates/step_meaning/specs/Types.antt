@@ -1,6 +1,6 @@
 -- Types (C11 6.2.5, 6.7.2.1): when two are the same, and the scalars that an object of a type consists of.
 -- Each scalar is one cell. An array has the cells of its elements in order, a struct those of its members in order, without padding.
-use Rattle.std.specs.Prelude.{ℕ, zero, suc, Bool, true, false, ◌&&◌, ◌==◌, List, [], ◌∷◌, ◌++◌, flat_map, slice_get, Option, Some, None}
+use Rattle.std.specs.Prelude.{ℕ, zero, suc, Bool, true, false, ◌&&◌, ◌==◌, if◌then◌else◌, List, [], ◌∷◌, ◌++◌, flat_map, slice_get, Option, Some, None}
 use Rattle.step_meaning.specs.declared.value.IntKind.{IntKind}
 use Rattle.step_meaning.specs.declared.value.IntKind.TheVariants as kind
 use Rattle.step_meaning.specs.declared.value.CType.{CType, end_of-CType, more_of-CType}
@@ -26,6 +26,10 @@ same_type (Pointer' p (more_of-CType t end_of-CType)) (Pointer' q (more_of-CType
 same_type (Array' p (more_of-CType t end_of-CType) n) (Array' q (more_of-CType u end_of-CType) m) = n == m && same_type t u
 same_type (Struct n) (Struct m) = n == m
 same_type _ _ = false
+
+-- a value where a condition is met, and none elsewhere
+abbrev pub where_true : {A : Type 0} → Bool → A → Option A
+where_true b a = if b then Some a else None
 
 -- the list n times, end to end
 abbrev pub times : {A : Type 0} → ℕ → List A → List A

@@ -5,14 +5,15 @@ use Rattle.std.specs.List.{AllByRecursion}
 use Rattle.std.proofs.lemmas.List.{length-map}
 use Rattle.step_meaning.specs.declared.program.Core.{Core}
 use Rattle.step_meaning.specs.declared.program.Function.{Function as CoreFunction}
-use Rattle.step_meaning.specs.Steps.{steps}
+use Rattle.step_meaning.specs.Steps.{items, steps}
 use Rattle.step_meaning.specs.Runs.{run}
+use Rattle.step_meaning.specs.Verdicts.{verdicts_before, AreSafe}
 use Rattle.c_grammar.specs.declared.word.Mode.TheVariants as mode
 use Rattle.c_parser.specs.Program.{Function, Property, Program}
 use Rattle.c_parser.specs.FirstForm.{BodiesFit, IsFirstForm, IsTextOf}
 use Rattle.weave_cli.specs.FirstCore.{core_functions, getchar, putchar, first_core}
 use Rattle.weave_cli.specs.Weaving.{property_function, woven}
-use Rattle.weave_cli.specs.Simulation.{verdicts_before, AreSafe, IsMonitor, Simulates}
+use Rattle.weave_cli.specs.Simulation.{IsMonitor, Simulates}
 use Rattle.weave_cli.specs.FirstTask.{NeverWrites, no_automaton, meets, SimulatesTask, first_task, IsWeavingOf}
 use Rattle.weave_cli.specs.Answers.{IsWovenText}
 use Rattle.weave_cli.proofs.ReadsBack.{reads_back}
@@ -40,10 +41,10 @@ module _ (x : ℕ) (p : Core) (fs fs' : List CoreFunction) (same : (g : ℕ) →
   runs input k = run_woven x k p fs fs' same input
 
   -- the verdicts of the one monitor
-  judged : (input : List ℕ) (k n j : ℕ) → j ≡ 1 → AreSafe j (verdicts_before n (run weave input k)) ↔ NeverWrites x (take n (steps (run source input k)))
+  judged : (input : List ℕ) (k n j : ℕ) → j ≡ 1 → AreSafe j (verdicts_before n (items (run weave input k))) ↔ NeverWrites x (take n (steps (run source input k)))
   judged input k n j first = (
-    (λ safe. law.judged_to x n _ _ (runs input k) (subst (λ i. AreSafe i (verdicts_before n (run weave input k))) first safe)),
-    (λ never. subst (λ i. AreSafe i (verdicts_before n (run weave input k))) (sym first) (law.judged_from x n _ _ (runs input k) never)),
+    (λ safe. law.judged_to x n _ _ (runs input k) (subst (λ i. AreSafe i (verdicts_before n (items (run weave input k)))) first safe)),
+    (λ never. subst (λ i. AreSafe i (verdicts_before n (items (run weave input k)))) (sym first) (law.judged_from x n _ _ (runs input k) never)),
   )
 
   pub simulated : Simulates source weave 1 no_automaton (λ j ss. meets (Some x) ss) (λ j ss. ⊥)

@@ -11,7 +11,8 @@ use Rattle.step_meaning.specs.declared.program.Core.{Core}
 use Rattle.step_meaning.specs.declared.program.Function.{Function as CoreFunction}
 use Rattle.step_meaning.specs.Steps.{Step, Trace, items, steps, end}
 use Rattle.step_meaning.specs.Erasure.{name_if_any, function_name, shown_action, ShownAction, ShownStep, shown_step, erased, Enter, Call, Return}
-use Rattle.weave_cli.specs.Simulation.{verdicts, verdicts_before, AreSafe, HasNoAccept, IsMonitor}
+use Rattle.step_meaning.specs.Verdicts.{verdicts, verdicts_before, AreSafe, HasNoAccept}
+use Rattle.weave_cli.specs.Simulation.{IsMonitor}
 use Rattle.weave_cli.specs.FirstTask.{Writes, NeverWrites}
 use Rattle.weave_cli.proofs.WovenTraces.{IsQuiet, global_pointer, Woven, stops, quiet, writes}
 use Rattle.weave_cli.proofs.WovenRuns.{FunctionsAlike, neither, library_in, library_out, void, main}
@@ -23,12 +24,12 @@ same_end x _ _ stops = refl
 same_end x _ _ (quiet s q w) = same_end x _ _ w
 same_end x _ _ (writes s v y z a m k b w) = same_end x _ _ w
 
-pub silent_source : (x : ℕ) (t u : Trace) → Woven x t u → verdicts t ≡ []
+pub silent_source : (x : ℕ) (t u : Trace) → Woven x t u → verdicts (items t) ≡ []
 silent_source x _ _ stops = refl
 silent_source x _ _ (quiet s q w) = silent_source x _ _ w
 silent_source x _ _ (writes s v y z a m k b w) = silent_source x _ _ w
 
-pub of_one_monitor : (x : ℕ) (t u : Trace) → Woven x t u → AllByRecursion (λ v. IsMonitor 1 v.monitor) (verdicts u)
+pub of_one_monitor : (x : ℕ) (t u : Trace) → Woven x t u → AllByRecursion (λ v. IsMonitor 1 v.monitor) (verdicts (items u))
 of_one_monitor x _ _ stops = tt
 of_one_monitor x _ _ (quiet s q w) = of_one_monitor x _ _ w
 of_one_monitor x _ _ (writes s v y z a m k b w) = (record { from_one = omega arith; to_last = omega arith }, of_one_monitor x _ _ w)
@@ -36,7 +37,7 @@ of_one_monitor x _ _ (writes s v y z a m k b w) = (record { from_one = omega ari
 safe_is_not_accept : Safe ≡ Accept → ⊥
 safe_is_not_accept e = cc
 
-pub without_accept : (x j : ℕ) (t u : Trace) → Woven x t u → HasNoAccept j (verdicts u)
+pub without_accept : (x j : ℕ) (t u : Trace) → Woven x t u → HasNoAccept j (verdicts (items u))
 without_accept x j _ _ stops = tt
 without_accept x j _ _ (quiet s q w) = without_accept x j _ _ w
 without_accept x j _ _ (writes s v y z a m k b w) = ((λ same accept. safe_is_not_accept (sym k ∙ accept)), without_accept x j _ _ w)
@@ -70,14 +71,14 @@ is_true x y apart = of (y == x) refl
     of true e = absurd (apart (grind (arith, nat_tests)))
     of false e = rw e refl
 
-pub judged_to : (x n : ℕ) (t u : Trace) → Woven x t u → AreSafe 1 (verdicts_before n u) → NeverWrites x (take n (steps t))
+pub judged_to : (x n : ℕ) (t u : Trace) → Woven x t u → AreSafe 1 (verdicts_before n (items u)) → NeverWrites x (take n (steps t))
 judged_to x zero t u w safe = tt
 judged_to x (suc n) _ _ stops safe = tt
 judged_to x (suc n) _ _ (quiet s q w) safe = (quiet_writes_nothing x s.action q, judged_to x n _ _ w safe)
 judged_to x (suc n) _ _ (writes s v y z a m k b w) safe =
     ((λ written. differs x y (sym b ∙ safe.0 m k) (write_of x y s.action z a written)), judged_to x n _ _ w safe.1)
 
-pub judged_from : (x n : ℕ) (t u : Trace) → Woven x t u → NeverWrites x (take n (steps t)) → AreSafe 1 (verdicts_before n u)
+pub judged_from : (x n : ℕ) (t u : Trace) → Woven x t u → NeverWrites x (take n (steps t)) → AreSafe 1 (verdicts_before n (items u))
 judged_from x zero t u w never = tt
 judged_from x (suc n) _ _ stops never = tt
 judged_from x (suc n) _ _ (quiet s q w) never = judged_from x n _ _ w never.1

@@ -1,38 +1,12 @@
 -- A woven core simulates its source and judges the source's monitors.
 -- Monitors have the numbers from 1. What a monitor asks of a list of steps is an argument, and for an automaton when it accepts one.
-use Rattle.std.specs.Prelude.{◌≡◌, ◌↔◌, ◌⊎◌, ℤ, ℕ, zero, suc, ◌≤◌, Bool, true, false, List, [], ◌∷◌, length, take}
+use Rattle.std.specs.Prelude.{◌≡◌, ◌↔◌, ℤ, ℕ, ◌≤◌, Bool, true, false, List, length, take}
 use Rattle.std.specs.List.{AllByRecursion}
-use Rattle.step_meaning.specs.declared.stmt.VerdictKind.TheVariants.{Safe, Accept}
 use Rattle.step_meaning.specs.declared.program.Core.{Core}
-use Rattle.step_meaning.specs.Steps.{Step, Verdict, Made, Judged, Exit, Trace, Stop, Then, items, steps, end}
+use Rattle.step_meaning.specs.Steps.{Step, Exit, items, steps, end}
 use Rattle.step_meaning.specs.Runs.{run}
 use Rattle.step_meaning.specs.Erasure.{erased}
-
--- the verdicts of a run, and those that stand before its n-th step
-abbrev pub verdicts : Trace → List Verdict
-verdicts (Stop e) = []
-verdicts (Then (Made s) t) = verdicts t
-verdicts (Then (Judged v) t) = v ∷ verdicts t
-
-abbrev pub verdicts_before : ℕ → Trace → List Verdict
-verdicts_before zero t = []
-verdicts_before (suc n) (Stop e) = []
-verdicts_before (suc n) (Then (Made s) t) = verdicts_before n t
-verdicts_before (suc n) (Then (Judged v) t) = v ∷ verdicts_before (suc n) t
-
--- the Safe verdicts of the monitor are all true
-abbrev pub AreSafe : ℕ → List Verdict → Type 0
-AreSafe j vs = AllByRecursion (λ v. v.monitor ≡ j → v.kind ≡ Safe → v.truth ≡ true) vs
-
--- there is no Accept verdict of the monitor
-abbrev pub HasNoAccept : ℕ → List Verdict → Type 0
-HasNoAccept j vs = AllByRecursion (λ v. v.monitor ≡ j → v.kind ≡ Accept → ⊥) vs
-
--- there is exactly one Accept verdict of the monitor, and it is true exactly where the fact holds
-abbrev pub HasOneAccept : ℕ → Type 0 → List Verdict → Type 0
-HasOneAccept j fact [] = ⊥
-HasOneAccept j fact (v ∷ vs) =
-    ((v.monitor ≡ j) × (v.kind ≡ Accept) × (v.truth ≡ true ↔ fact) × HasNoAccept j vs) ⊎ ((v.monitor ≡ j → v.kind ≡ Accept → ⊥) × HasOneAccept j fact vs)
+use Rattle.step_meaning.specs.Verdicts.{verdicts, verdicts_before, AreSafe, HasNoAccept, HasOneAccept}
 
 pub record IsMonitor (monitors j : ℕ) : Type 0 where
   pub from_one : 1 ≤ j
@@ -44,11 +18,11 @@ pub record Simulates (source woven : Core) (monitors : ℕ) (is_automaton : ℕ 
   pub same_steps : (input : List ℕ) (k : ℕ) → erased woven (items (run woven input k)) ≡ erased source (items (run source input k))
   -- the Safe verdicts before the n-th step are all true exactly where the first n steps of the source meet the monitor
   pub judged : (input : List ℕ) (k n j : ℕ) → IsMonitor monitors j → n ≤ length (steps (run source input k))
-      → AreSafe j (verdicts_before n (run woven input k)) ↔ judge j (take n (steps (run source input k)))
+      → AreSafe j (verdicts_before n (items (run woven input k))) ↔ judge j (take n (steps (run source input k)))
   -- at the exit an automaton has one Accept verdict, true exactly where it accepts all steps of the source
   pub accepted : (input : List ℕ) (k j : ℕ) (v : ℤ) → IsMonitor monitors j → is_automaton j ≡ true → end (run woven input k) ≡ Exit v
-      → HasOneAccept j (accepts j (steps (run source input k))) (verdicts (run woven input k))
+      → HasOneAccept j (accepts j (steps (run source input k))) (verdicts (items (run woven input k)))
   -- a property has none
-  pub no_accept : (input : List ℕ) (k j : ℕ) → IsMonitor monitors j → is_automaton j ≡ false → HasNoAccept j (verdicts (run woven input k))
+  pub no_accept : (input : List ℕ) (k j : ℕ) → IsMonitor monitors j → is_automaton j ≡ false → HasNoAccept j (verdicts (items (run woven input k)))
   -- each verdict is of one of the monitors
-  pub theirs : (input : List ℕ) (k : ℕ) → AllByRecursion (λ v. IsMonitor monitors v.monitor) (verdicts (run woven input k))
+  pub theirs : (input : List ℕ) (k : ℕ) → AllByRecursion (λ v. IsMonitor monitors v.monitor) (verdicts (items (run woven input k)))
