@@ -1,14 +1,11 @@
 -- Programs that differ from a well-formed one in one point, which makes them ill formed.
-use Rattle.std.proofs.Common.{◌≡◌, ℕ, Bool, true, false, refl, List, [], ◌∷◌, Some, None}
-use Rattle.std.specs.Prelude.{pos, codes, IsTrue}
+use Rattle.std.proofs.Common.{◌≡◌, ℕ, true, false, refl, List, [], ◌∷◌, Some, None}
+use Rattle.std.specs.Prelude.{codes, IsTrue}
 use Rattle.step_meaning.specs.declared.value.IntKind.TheVariants as kind
-use Rattle.step_meaning.specs.declared.value.CType.{CType}
 use Rattle.step_meaning.specs.declared.value.CType.TheVariants as type
 use Rattle.step_meaning.specs.declared.value.NameKind.{NameKind}
 use Rattle.step_meaning.specs.declared.value.NameKind.TheVariants as names
-use Rattle.step_meaning.specs.declared.value.Name.{Name}
 use Rattle.step_meaning.specs.declared.value.Value.{Value}
-use Rattle.step_meaning.specs.declared.value.Value.TheVariants as value
 use Rattle.step_meaning.specs.declared.value.Action.TheVariants as act
 use Rattle.step_meaning.specs.declared.value.RunFault.TheVariants as fault
 use Rattle.step_meaning.specs.declared.expr.Variable.{Variable}
@@ -26,7 +23,6 @@ use Rattle.step_meaning.specs.Settings.{setting_of}
 use Rattle.step_meaning.specs.TypeRules.{are_layouts, keeps_rules, is_result_type}
 use Rattle.step_meaning.specs.ExpressionTypes.{pointer_to}
 use Rattle.step_meaning.specs.Identifiers.{keywords, is_keyword, is_name}
-use Rattle.step_meaning.specs.InitialValues.{all_initialised}
 use Rattle.step_meaning.specs.StatementRules.{StatementFits}
 use Rattle.step_meaning.specs.Runs.{run}
 use Rattle.step_meaning.specs.FaultsHalt.{FaultsHalt}
@@ -125,79 +121,6 @@ void_pointer_global w = refuted w.globals
 -- an array as a ghost variable
 ghost_array : IsWellFormed (record adding { ghosts = named (codes "__g") (array_of int 2) ∷ [] }) → ⊥
 ghost_array w = refuted w.ghosts
-
--- ---- initial values
-
-abbrev starting : List (List Value) → Core
-starting vss = record adding { initial = vss }
-
-abbrev list_start : List Value
-list_start = value.Int (pos 5) ∷ value.Pointer list 0 ∷ []
-
-abbrev second : Name
-second = record { kind = names.Global; activation = 0; index = 1 }
-
--- none for the second variable
-too_few_variables : IsWellFormed (starting (list_start ∷ [])) → ⊥
-too_few_variables w = refuted w.initial
-
--- none for the second cell of the first
-too_few_cells : IsWellFormed (starting ((value.Int (pos 5) ∷ []) ∷ (value.Null ∷ []) ∷ [])) → ⊥
-too_few_cells w = refuted w.initial
-
--- 2147483648 in an `int`
-too_great_integer : IsWellFormed (starting ((value.Int (pos 2147483648) ∷ value.Null ∷ []) ∷ (value.Null ∷ []) ∷ [])) → ⊥
-too_great_integer w = refuted w.initial
-
--- an integer in a pointer
-integer_in_pointer : IsWellFormed (starting (list_start ∷ (value.Int (pos 0) ∷ []) ∷ [])) → ⊥
-integer_in_pointer w = refuted w.initial
-
--- int *where = &list.next; which points to no integer
-struct_address : IsWellFormed (starting ((value.Int (pos 5) ∷ value.Null ∷ []) ∷ (value.Pointer list 1 ∷ []) ∷ [])) → ⊥
-struct_address w = refuted w.initial
-
--- int *where = a pointer past the variable, to a local, and to a variable that isn't there
-past_the_variable : IsWellFormed (starting ((value.Int (pos 5) ∷ value.Null ∷ []) ∷ (value.Pointer list 2 ∷ []) ∷ [])) → ⊥
-past_the_variable w = refuted w.initial
-
-local_address : IsWellFormed (starting (list_start ∷ (value.Pointer (record { kind = names.Local; activation = 0; index = 0 }) 0 ∷ []) ∷ [])) → ⊥
-local_address w = refuted w.initial
-
--- int *a = &b; int b;
-abbrev later_address : Core
-later_address = record adding {
-  globals = named (codes "a") (pointer_to int) ∷ named (codes "b") int ∷ [];
-  initial = (value.Pointer second 0 ∷ []) ∷ (value.Int (pos 0) ∷ []) ∷ [];
-}
-
-address_of_later : IsWellFormed later_address → ⊥
-address_of_later w = refuted w.initial
-
--- int a[2][3]; int *b = &a[1][2]; int (*c)[3] = &a[1]; and &a[1] as the address of an array of two rows
-abbrev rows : Value → CType → Core
-rows v t = record adding {
-  globals = named (codes "a") (array_of (array_of int 3) 2) ∷ named (codes "b") (pointer_to t) ∷ [];
-  initial = (value.Int (pos 0) ∷ value.Int (pos 0) ∷ value.Int (pos 0) ∷ value.Int (pos 0) ∷ value.Int (pos 0) ∷ value.Int (pos 0) ∷ []) ∷ (v ∷ []) ∷ [];
-}
-
-abbrev initialised : Core → Bool
-initialised q = all_initialised q 0 q.globals q.initial
-
-element_address : initialised (rows (value.Pointer list 5) int) ≡ true
-element_address = refl
-
-row_address : initialised (rows (value.Pointer list 3) (array_of int 3)) ≡ true
-row_address = refl
-
-within_a_row : initialised (rows (value.Pointer list 4) (array_of int 3)) ≡ false
-within_a_row = refl
-
-past_the_rows : initialised (rows (value.Pointer list 6) int) ≡ false
-past_the_rows = refl
-
-rows_address : initialised (rows (value.Pointer list 3) (array_of (array_of int 3) 2)) ≡ false
-rows_address = refl
 
 -- ---- functions
 

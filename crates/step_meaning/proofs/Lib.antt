@@ -12,6 +12,7 @@ pub mod Frames
 pub mod WellFormedExamples
 pub mod ExpressionTypeExamples
 pub mod IllFormedExamples
+pub mod InitialValueExamples
 pub mod NormalExamples
 mod Ranges
 mod OperatorRanges

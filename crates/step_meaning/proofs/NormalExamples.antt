@@ -193,7 +193,7 @@ unfolding is_keyword keywords
 counting_well_formed = record {
   structs = refl;
   globals = refl;
-  initial = refl;
+  initial = ((refl, tt), tt);
   ghosts = refl;
   getchar = refl;
   putchar = refl;

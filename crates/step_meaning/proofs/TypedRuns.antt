@@ -1,12 +1,10 @@
 -- A fault that ends a run of a well-formed program is a Halt step.
 use Rattle.std.proofs.Common.{◌≡◌, ℕ, zero, suc, ◌<◌, ◌^◌, Bool, true, false, cond, ◌&&◌, not, List, [], ◌∷◌, length, map, take, Option, Some, None, refl, sym, ap, subst, ◌∙◌, arith}
-use Rattle.std.specs.Prelude.{◌==◌, ℤ, pos, slice_get, option_map, option_and_then, is_some, nat_le, IsTrue}
+use Rattle.std.specs.Prelude.{◌==◌, ℤ, pos, slice_get, option_map, option_and_then, is_some, IsTrue}
 use Rattle.std.specs.List.{list_all}
-use Rattle.std.proofs.lemmas.Bool.{eqb-true, leb-true}
+use Rattle.std.proofs.lemmas.Bool.{eqb-true}
 use Rattle.step_meaning.specs.declared.value.CType.{CType, end_of-CType, more_of-CType}
 use Rattle.step_meaning.specs.declared.value.CType.TheVariants as type
-use Rattle.step_meaning.specs.declared.value.NameKind.{NameKind}
-use Rattle.step_meaning.specs.declared.value.NameKind.TheVariants as names
 use Rattle.step_meaning.specs.declared.value.Value.{Value}
 use Rattle.step_meaning.specs.declared.value.Value.TheVariants as value
 use Rattle.step_meaning.specs.declared.value.Cell.TheVariants.{Nothing}
@@ -14,7 +12,6 @@ use Rattle.step_meaning.specs.declared.stmt.Stmt.{Stmt}
 use Rattle.step_meaning.specs.declared.program.Declared.{Declared}
 use Rattle.step_meaning.specs.declared.program.Function.{Function}
 use Rattle.step_meaning.specs.declared.program.Core.{Core}
-use Rattle.step_meaning.specs.Names.{same_kind}
 use Rattle.step_meaning.specs.Types.{same_type, object_cells}
 use Rattle.step_meaning.specs.Memory.{Slot, Block, empty_block, filled}
 use Rattle.step_meaning.specs.Steps.{Item, Made, Judged, End, Exit, Fault, More, Trace, Stop, Then, steps}
@@ -24,7 +21,7 @@ use Rattle.step_meaning.specs.Runs.{run, global_blocks, start_memory, start_stat
 use Rattle.step_meaning.specs.TypeRules.{cells, keeps_rules}
 use Rattle.step_meaning.specs.ExpressionTypes.{has_body, parameter_types}
 use Rattle.step_meaning.specs.StatementRules.{BodyFits}
-use Rattle.step_meaning.specs.InitialValues.{has_part, is_initial_value, are_initial_values, all_initialised}
+use Rattle.step_meaning.specs.InitialValues.{BeginsAt, IsInitialValue, AreInitialValues, AllInitialised}
 use Rattle.step_meaning.specs.WellFormed.{IsWellFormed, IsWellFormedFunction, OfBody, int, is_main}
 use Rattle.step_meaning.specs.FaultsHalt.{FaultsHalt, WellFormedFaultsHalt}
 use Rattle.step_meaning.specs.Traced.{SlotTyped, is_program_kind}
@@ -88,13 +85,6 @@ module _ (q : Core) (h : IsWellFormed q) (bound : ℕ) where
 
 -- ---- the start
 
-kind_fits : (k : NameKind) → same_kind k names.Global ≡ true → IsTrue (is_program_kind k)
-kind_fits names.Global e = refl
-kind_fits names.Local e = false_is_not_true e
-kind_fits names.Register e = false_is_not_true e
-kind_fits names.GhostGlobal e = false_is_not_true e
-kind_fits names.GhostLocal e = false_is_not_true e
-
 module _ (q : Core) (h : IsWellFormed q) where
   global_type : (i : ℕ) → WhereSome (λ t. keeps_rules q.layouts t ≡ true) (option_map (λ d. d.ctype) (slice_get q.globals i))
   global_type i = by q.globals i h.globals
@@ -104,21 +94,21 @@ module _ (q : Core) (h : IsWellFormed q) where
       by (d ∷ ds) zero e = left_of_and _ _ e
       by (d ∷ ds) (suc i) e = by ds i (right_of_and _ _ e)
 
-  offset_fits : (u : Option CType) (o : ℕ) (t : CType) → WhereSome (λ t. keeps_rules q.layouts t ≡ true) u → has_part q u o t ≡ true → o < 2 ^ 32
-  offset_fits None o t k e = false_is_not_true e
-  offset_fits (Some u) o t k e = let l : o < cells q.layouts u = leb-true (suc o) (cells q.layouts u) (left_of_and _ _ e) in let m : cells q.layouts u < 2 ^ 32 = sizes_fit q.layouts h.structs u k in omega arith
+  offset_fits : (d : Option Declared) (o : ℕ) (t : CType) → WhereSome (λ t. keeps_rules q.layouts t ≡ true) (option_map (λ d. d.ctype) d) → BeginsAt q d o t → o < 2 ^ 32
+  offset_fits None o t k p = absurd p
+  offset_fits (Some d) o t k p = let l : o < cells q.layouts d.ctype = p.0 in let m : cells q.layouts d.ctype < 2 ^ 32 = sizes_fit q.layouts h.structs d.ctype k in omega arith
 
-  initial_fits : (i : ℕ) (t : CType) (v : Value) → is_initial_value q i t v ≡ true → InCell t v
+  initial_fits : (i : ℕ) (t : CType) (v : Value) → IsInitialValue q i t v → InCell t v
   initial_fits i (type.Int k) (value.Int z) e = (e, tt)
   initial_fits i (type.Pointer' p t) value.Null e = (tt, tt)
-  initial_fits i (type.Pointer' p (more_of-CType t end_of-CType)) (value.Pointer n o) e = (offset_fits (option_map (λ d. d.ctype) (slice_get q.globals n.index)) o t (global_type n.index) (right_of_and (nat_le n.index i) _ (right_of_and (n.activation == 0) _ (right_of_and (same_kind n.kind names.Global) _ e))), kind_fits n.kind (left_of_and (same_kind n.kind names.Global) _ e))
-  initial_fits i t v e = false_is_not_true e
+  initial_fits i (type.Pointer' p (more_of-CType t end_of-CType)) (value.Pointer n o) e = (offset_fits (slice_get q.globals n.index) o t (global_type n.index) e.part, subst (λ k. IsTrue (is_program_kind k)) (sym e.file_scope) refl)
+  initial_fits i t v e = absurd e
 
-  filled_fits : (i : ℕ) (ts : List CType) (vs : List Value) → are_initial_values q i ts vs ≡ true → Each SlotTyped (filled (map (λ t. record { declared = t; cell = Nothing }) ts) vs)
+  filled_fits : (i : ℕ) (ts : List CType) (vs : List Value) → AreInitialValues q i ts vs → Each SlotTyped (filled (map (λ t. record { declared = t; cell = Nothing }) ts) vs)
   filled_fits i [] [] e = tt
-  filled_fits i (t ∷ ts) (v ∷ vs) e = (initial_fits i t v (left_of_and _ _ e), filled_fits i ts vs (right_of_and _ _ e))
-  filled_fits i [] (v ∷ vs) e = false_is_not_true e
-  filled_fits i (t ∷ ts) [] e = false_is_not_true e
+  filled_fits i (t ∷ ts) (v ∷ vs) e = (initial_fits i t v e.0, filled_fits i ts vs e.1)
+  filled_fits i [] (v ∷ vs) e = absurd e
+  filled_fits i (t ∷ ts) [] e = absurd e
 
   filled_length : (ts : List CType) (vs : List Value) → length (filled (map (λ t. record { declared = t; cell = Nothing }) ts) vs) ≡ length ts
   filled_length [] vs = refl
@@ -129,11 +119,11 @@ module _ (q : Core) (h : IsWellFormed q) where
       lengths (t ∷ ts) = ap suc (lengths ts)
   filled_length (t ∷ ts) (v ∷ vs) = ap suc (filled_length ts vs)
 
-  blocks_fit : (i : ℕ) (ds : List Declared) (vss : List (List Value)) → list_all (λ d. keeps_rules q.layouts d.ctype) ds ≡ true → all_initialised q i ds vss ≡ true → Each BlockFits (global_blocks q.layouts ds vss)
+  blocks_fit : (i : ℕ) (ds : List Declared) (vss : List (List Value)) → list_all (λ d. keeps_rules q.layouts d.ctype) ds ≡ true → AllInitialised q i ds vss → Each BlockFits (global_blocks q.layouts ds vss)
   blocks_fit i [] vss k e = tt
-  blocks_fit i (d ∷ ds) [] k e = false_is_not_true e
+  blocks_fit i (d ∷ ds) [] k e = absurd e
   blocks_fit i (d ∷ ds) (vs ∷ vss) k e =
-      ((filled_fits i (object_cells q.layouts d.ctype) vs (left_of_and _ _ e), rw (filled_length (object_cells q.layouts d.ctype) vs) (sizes_fit q.layouts h.structs d.ctype (left_of_and _ _ k))), blocks_fit (suc i) ds vss (right_of_and _ _ k) (right_of_and _ _ e))
+      ((filled_fits i (object_cells q.layouts d.ctype) vs e.0, rw (filled_length (object_cells q.layouts d.ctype) vs) (sizes_fit q.layouts h.structs d.ctype (left_of_and _ _ k))), blocks_fit (suc i) ds vss (right_of_and _ _ k) e.1)
 
   filled_declared : (b : Block) (vs : List Value) → cells_declared (filled b vs) ≡ cells_declared b
   filled_declared [] vs = refl

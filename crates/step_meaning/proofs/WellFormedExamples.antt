@@ -1,5 +1,5 @@
 -- A small program that is well formed, and programs that break one point each. The text of each core stands above it.
-use Rattle.std.proofs.Common.{ℕ, refl, List, [], ◌∷◌, Some, None}
+use Rattle.std.proofs.Common.{ℕ, refl, List, [], ◌∷◌, Some, None, lit≤, lit<}
 use Rattle.std.specs.Prelude.{pos, codes}
 use Rattle.step_meaning.specs.declared.value.IntKind.TheVariants as kind
 use Rattle.step_meaning.specs.declared.value.CType.{CType}
@@ -23,6 +23,7 @@ use Rattle.step_meaning.specs.declared.program.Function.{Function}
 use Rattle.step_meaning.specs.declared.program.Core.{Core}
 use Rattle.step_meaning.specs.ExpressionTypes.{pointer_to}
 use Rattle.step_meaning.specs.Identifiers.{keywords, is_keyword}
+use Rattle.step_meaning.specs.InitialValues.{IsAddressConstant, itself, in_member}
 use Rattle.step_meaning.specs.WellFormed.{IsWellFormed, IsWellFormedFunction}
 use Rattle.step_meaning.proofs.Examples.{int, lit, global, local, load, deref, assign, binary, convert, compare, return}
 
@@ -115,12 +116,19 @@ main_fits : IsWellFormedFunction adding main
 unfolding is_keyword keywords
 main_fits = record { result = refl; parameters_first = refl; parameters = refl; locals = refl; registers = refl; ghosts = refl; body = (tt, (tt, (refl, ((refl, refl), ((refl, refl, tt), (refl, tt)))))); names = refl }
 
+-- `&list` and `&list.value`
+to_node : IsAddressConstant adding 0 node list 0
+to_node = record { file_scope = refl; no_activation = refl; no_later = lit≤ tt; part = (lit< tt, itself refl refl) }
+
+to_value : IsAddressConstant adding 1 int list 0
+to_value = record { file_scope = refl; no_activation = refl; no_later = lit≤ tt; part = (lit< tt, in_member int 0 0 refl refl (itself refl refl)) }
+
 adding_well_formed : IsWellFormed adding
 unfolding is_keyword keywords
 adding_well_formed = record {
   structs = refl;
   globals = refl;
-  initial = refl;
+  initial = ((refl, (to_node, tt)), ((to_value, tt), tt));
   ghosts = refl;
   getchar = refl;
   putchar = refl;

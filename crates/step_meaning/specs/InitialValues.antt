@@ -1,7 +1,6 @@
 -- Initial values of variables of file scope (C11 6.6, 6.7.9): what an initialiser can give, one value a cell.
--- An integer constant expression gives any integer of the cell's type. A pointer is null, or the address of a part of a variable of file scope: of the variable, a member, or an element of an array with an index in range.
-use Rattle.std.specs.Prelude.{ℕ, zero, suc, ◌+◌, Bool, true, false, ◌&&◌, ◌==◌, nat_lt, nat_le, List, [], ◌∷◌, ◌++◌, map, slice_get, Option, Some, None, option_map}
-use Rattle.std.specs.List.{list_any}
+-- An integer constant expression gives any integer of the cell's type. A pointer is null or an address constant: the address of a part of a variable of file scope, which is the variable, a member, or an element of an array with an index in range.
+use Rattle.std.specs.Prelude.{◌≡◌, ℕ, suc, ◌+◌, ◌*◌, ◌≤◌, ◌<◌, List, [], ◌∷◌, slice_get, Option, Some, None, IsTrue}
 use Rattle.step_meaning.specs.declared.value.CType.{CType, end_of-CType, more_of-CType}
 use Rattle.step_meaning.specs.declared.value.CType.TheVariants as type
 use Rattle.step_meaning.specs.declared.value.NameKind.TheVariants.{Global}
@@ -12,79 +11,54 @@ use Rattle.step_meaning.specs.declared.program.Layout.{Layout}
 use Rattle.step_meaning.specs.declared.program.Declared.{Declared}
 use Rattle.step_meaning.specs.declared.program.Core.{Core}
 use Rattle.step_meaning.specs.Numbers.{is_in_range}
-use Rattle.step_meaning.specs.Names.{same_kind}
-use Rattle.step_meaning.specs.Types.{same_type, object_cells, or_empty}
-use Rattle.step_meaning.specs.TypeRules.{cells}
+use Rattle.step_meaning.specs.Types.{same_type, object_cells}
+use Rattle.step_meaning.specs.TypeRules.{cells, member_type, element_type}
 
--- ---- the parts of an object: itself, and the parts of its elements or members
+-- ---- the parts of an object
 
--- an object of the type, at an offset
-pub record Part : Type 0 where
-  pub offset : ℕ
-  pub ctype : CType
+abbrev pub element_count : CType → ℕ
+element_count (type.Array' b t n) = n
+element_count _ = 0
 
-abbrev pub moved_part : ℕ → Part → Part
-moved_part o p = record p { offset = o + p.offset }
-
--- the parts of so many elements of so many cells, from an offset on
-abbrev pub element_parts : ℕ → ℕ → (ℕ → List Part) → ℕ → List Part
-element_parts zero size parts o = []
-element_parts (suc n) size parts o = parts o ++ element_parts n size parts (o + size)
-
-module _ (layouts : List Layout) where
-  -- the parts of an object at an offset, where those of each struct are given
-  abbrev pub parts_at : List (List Part) → CType → ℕ → List Part
-  parts_at structs type.Void o = []
-  parts_at structs (type.Int k) o = record { offset = o; ctype = type.Int k } ∷ []
-  parts_at structs (type.Pointer' p t) o = record { offset = o; ctype = type.Pointer' p t } ∷ []
-  parts_at structs (type.Array' p (more_of-CType t end_of-CType) n) o =
-      record { offset = o; ctype = type.Array' p (more_of-CType t end_of-CType) n } ∷ element_parts n (cells layouts t) (parts_at structs t) o
-  parts_at structs (type.Struct n) o = record { offset = o; ctype = type.Struct n } ∷ map (moved_part o) (or_empty (slice_get structs n))
-
-  abbrev pub member_parts : List (List Part) → List Declared → ℕ → List Part
-  member_parts structs [] o = []
-  member_parts structs (d ∷ ds) o = parts_at structs d.ctype o ++ member_parts structs ds (o + cells layouts d.ctype)
-
-  -- those of each struct's members, after those of earlier structs
-  abbrev pub struct_parts : List (List Part) → List Layout → List (List Part)
-  struct_parts before [] = before
-  struct_parts before (l ∷ ls) = struct_parts (before ++ (member_parts before l.members 0 ∷ [])) ls
-
-  abbrev pub parts : CType → List Part
-  parts t = parts_at (struct_parts [] layouts) t 0
-
--- a part of this type at this offset
-abbrev pub is_part : ℕ → CType → Part → Bool
-is_part o t p = p.offset == o && same_type p.ctype t
+-- an object of type u has a part of type t at the offset o
+pub data HasPart (layouts : List Layout) (t : CType) : CType → ℕ → Type 0 where
+  -- the object itself
+  itself : {u : CType} {o : ℕ} → IsTrue (same_type u t) → o ≡ 0 → HasPart layouts t u o
+  -- a part of the element with index i of an array
+  in_element : {u : CType} {o : ℕ} (w : CType) (size i j : ℕ) → element_type layouts u size ≡ Some w → i < element_count u → o ≡ i * size + j → HasPart layouts t w j → HasPart layouts t u o
+  -- a part of the member at the offset m of a struct
+  in_member : {u : CType} {o : ℕ} (w : CType) (m j : ℕ) → member_type layouts u m ≡ Some w → o ≡ m + j → HasPart layouts t w j → HasPart layouts t u o
 
 -- ---- values
 
 module _ (q : Core) where
-  -- a part of this type at this one of the variable's cells
-  abbrev pub has_part : Option CType → ℕ → CType → Bool
-  has_part None o t = false
-  has_part (Some u) o t = nat_lt o (cells q.layouts u) && list_any (is_part o t) (parts q.layouts u)
+  -- a part of this type begins at this one of the variable's cells
+  abbrev pub BeginsAt : Option Declared → ℕ → CType → Type 0
+  BeginsAt None o t = ⊥
+  BeginsAt (Some d) o t = (o < cells q.layouts d.ctype) × HasPart q.layouts t d.ctype o
 
-  -- the address of a part of this type in a variable of file scope, up to the one with number i (C11 6.6, 9; 6.2.1, 7)
-  abbrev pub is_address : ℕ → CType → Name → ℕ → Bool
-  is_address i t n o =
-      same_kind n.kind Global && (n.activation == 0 && (nat_le n.index i && has_part (option_map (λ d. d.ctype) (slice_get q.globals n.index)) o t))
+  -- the address of a part of this type of a variable of file scope, up to the one with number i (C11 6.6, 9; 6.2.1, 7)
+  pub record IsAddressConstant (i : ℕ) (t : CType) (n : Name) (o : ℕ) : Type 0 where
+    pub file_scope : n.kind ≡ Global
+    pub no_activation : n.activation ≡ 0
+    pub no_later : n.index ≤ i
+    pub part : BeginsAt (slice_get q.globals n.index) o t
 
   -- a value of a cell of the variable of file scope with number i
-  abbrev pub is_initial_value : ℕ → CType → Value → Bool
-  is_initial_value i (type.Int k) (Int z) = is_in_range k z
-  is_initial_value i (type.Pointer' p t) Null = true
-  is_initial_value i (type.Pointer' p (more_of-CType t end_of-CType)) (Pointer n o) = is_address i t n o
-  is_initial_value i t v = false
+  abbrev pub IsInitialValue : ℕ → CType → Value → Type 0
+  IsInitialValue i (type.Int k) (Int z) = IsTrue (is_in_range k z)
+  IsInitialValue i (type.Pointer' b t) Null = Unit {0}
+  IsInitialValue i (type.Pointer' b (more_of-CType t end_of-CType)) (Pointer n o) = IsAddressConstant i t n o
+  IsInitialValue i t v = ⊥
 
   -- one for each cell
-  abbrev pub are_initial_values : ℕ → List CType → List Value → Bool
-  are_initial_values i [] [] = true
-  are_initial_values i (t ∷ ts) (v ∷ vs) = is_initial_value i t v && are_initial_values i ts vs
-  are_initial_values i _ _ = false
+  abbrev pub AreInitialValues : ℕ → List CType → List Value → Type 0
+  AreInitialValues i [] [] = Unit {0}
+  AreInitialValues i (t ∷ ts) (v ∷ vs) = IsInitialValue i t v × AreInitialValues i ts vs
+  AreInitialValues i _ _ = ⊥
 
   -- those of each variable from number i on
-  abbrev pub all_initialised : ℕ → List Declared → List (List Value) → Bool
-  all_initialised i [] [] = true
-  all_initialised i (d ∷ ds) (vs ∷ vss) = are_initial_values i (object_cells q.layouts d.ctype) vs && all_initialised (suc i) ds vss
-  all_initialised i _ _ = false
+  abbrev pub AllInitialised : ℕ → List Declared → List (List Value) → Type 0
+  AllInitialised i [] [] = Unit {0}
+  AllInitialised i (d ∷ ds) (vs ∷ vss) = AreInitialValues i (object_cells q.layouts d.ctype) vs × AllInitialised (suc i) ds vss
+  AllInitialised i _ _ = ⊥

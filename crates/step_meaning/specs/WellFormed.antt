@@ -15,7 +15,7 @@ use Rattle.step_meaning.specs.Types.{same_type}
 use Rattle.step_meaning.specs.TypeRules.{are_layouts, keeps_rules, is_scalar_type, is_result_type}
 use Rattle.step_meaning.specs.ExpressionTypes.{has_body, parameter_types}
 use Rattle.step_meaning.specs.StatementRules.{BodyFits}
-use Rattle.step_meaning.specs.InitialValues.{all_initialised}
+use Rattle.step_meaning.specs.InitialValues.{AllInitialised}
 use Rattle.step_meaning.specs.Identifiers.{is_name, are_distinct}
 
 -- what is true of a body, where there is one
@@ -82,7 +82,7 @@ pub record IsWellFormed (q : Core) : Type 0 where
   -- the types of variables of file scope keep the rules on types
   pub globals : IsTrue (list_all (λ d. keeps_rules q.layouts d.ctype) q.globals)
   -- each variable of file scope has initial values that an initialiser gives, with the address of no later one
-  pub initial : IsTrue (all_initialised q 0 q.globals q.initial)
+  pub initial : AllInitialised q 0 q.globals q.initial
   -- ghost variables of file scope are integers or pointers
   pub ghosts : IsTrue (list_all (λ d. is_scalar_type q.layouts d.ctype) q.ghosts)
   -- `getchar` and `putchar` are the functions 0 and 1 (C11 7.21.7.6, 7.21.7.8)
