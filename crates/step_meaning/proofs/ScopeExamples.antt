@@ -1,6 +1,8 @@
 -- Scopes that keep the rules, and scopes that break one each.
-use Rattle.std.proofs.Common.{ℕ, ◌≤◌, false, refl, List, [], ◌∷◌, None, lit≤, lit<, arith, inr}
+use Rattle.std.proofs.Common.{◌≡◌, ◌≢◌, ℕ, suc, ◌≤◌, false, refl, ap, List, [], ◌∷◌, None, lit≤, lit<, arith, inr}
 use Rattle.std.specs.Prelude.{IsTrue}
+use Rattle.std.proofs.lemmas.List.Elements.{All-nil, All-cons}
+use Rattle.std.proofs.lemmas.List.Kept.{AllPairs-cons}
 use Rattle.step_meaning.specs.declared.value.CType.{CType}
 use Rattle.step_meaning.specs.declared.value.CType.TheVariants as type
 use Rattle.step_meaning.specs.declared.value.NameKind.TheVariants as names
@@ -44,6 +46,28 @@ kept =
 
 one_name_twice : IsScope (entry 120 int ∷ entry 120 int ∷ []) (core [] []) → ⊥
 one_name_twice h = h.distinct_entries 0 1 (entry 120 int) (lit< tt) (lit< tt) refl
+
+-- two names for one variable, also with two types, are no fault: a term has the type of the name by which it was read
+abbrev first : List ℕ → ℕ
+first [] = 0
+first (n ∷ ns) = n
+
+not_next : (n : ℕ) → n ≡ suc n → ⊥
+not_next n e = omega arith
+
+two_names : IsScope (entry 120 int ∷ entry 121 (pointer_to int) ∷ []) (core [] [])
+two_names =
+    record {
+      distinct_entries = AllPairs-cons (λ e f. e.name ≢ f.name) (entry 120 int) (entry 121 (pointer_to int) ∷ []) (All-cons (λ f. (120 ∷ []) ≢ f.name) (entry 121 (pointer_to int)) [] (λ e. not_next 120 (ap first e)) (All-nil (λ f. (120 ∷ []) ≢ f.name))) (λ i j d lt lt'. absurd (omega arith));
+      distinct_functions = λ i j d lt lt'. absurd (omega arith);
+      layouts = refl;
+      tags = refl;
+      members = refl;
+      entry_types = (refl, (refl, tt));
+      parameter_types = tt;
+      result_types = tt;
+      parameters = tt;
+    }
 
 one_function_twice : IsScope [] (core [] (named 102 0 [] ∷ named 102 0 [] ∷ [])) → ⊥
 one_function_twice h = h.distinct_functions 0 1 (named 102 0 []) (lit< tt) (lit< tt) refl

@@ -23,6 +23,7 @@ abbrev pub ResultKeepsRules : Core → Function → Type 0
 ResultKeepsRules q f = (f.result ≡ Void) ⊎ IsTrue (keeps_rules q.layouts f.result)
 
 pub record IsScope (entries : List Entry) (q : Core) : Type 0 where
+  -- names are distinct. Two of them may name one variable
   pub distinct_entries : AllPairs (λ e f. e.name ≢ f.name) entries
   pub distinct_functions : AllPairs (λ f g. f.name ≢ g.name) q.functions
   pub layouts : IsTrue (are_layouts q.layouts)
