@@ -1,8 +1,11 @@
 -- Hooks folded along the steps of small programs, computed.
-use Rattle.std.proofs.Common.{◌≡◌, ℕ, Bool, true, false, refl, List, [], ◌∷◌, length, map, None}
-use Rattle.std.specs.Prelude.{pos}
+use Rattle.std.proofs.Common.{◌≡◌, ℕ, Bool, true, false, refl, List, [], ◌∷◌, length, map, take, None}
+use Rattle.std.specs.Prelude.{ℤ, pos}
 use Rattle.step_meaning.specs.declared.value.IntKind.TheVariants as kind
 use Rattle.step_meaning.specs.declared.value.CType.TheVariants as type
+use Rattle.step_meaning.specs.declared.value.Action.TheVariants as act
+use Rattle.step_meaning.specs.declared.value.Cell.TheVariants.{Nothing, Holds}
+use Rattle.step_meaning.specs.declared.value.Value.TheVariants as value
 use Rattle.step_meaning.specs.declared.value.NameKind.{NameKind}
 use Rattle.step_meaning.specs.declared.value.NameKind.TheVariants as names
 use Rattle.step_meaning.specs.declared.expr.IntOp.TheVariants as op
@@ -25,9 +28,10 @@ use Rattle.step_meaning.specs.declared.program.Hooks.{Hooks}
 use Rattle.step_meaning.specs.declared.program.HookPoint.{HookPoint}
 use Rattle.step_meaning.specs.declared.program.HookPlace.{HookPlace}
 use Rattle.step_meaning.specs.declared.program.HookPlace.TheVariants as place
+use Rattle.step_meaning.specs.Memory.{Memory}
 use Rattle.step_meaning.specs.Steps.{Step, steps}
 use Rattle.step_meaning.specs.Runs.{run}
-use Rattle.step_meaning.specs.Verdicts.{verdicts_before}
+use Rattle.step_meaning.specs.Verdicts.{verdicts_before, items_to}
 use Rattle.step_meaning.specs.Fold.{fold}
 use Rattle.step_meaning.proofs.Examples.{int, declared, lit, global, local, load, assign, binary, compare, invoke, return, function, program, zero_cell, is_verdict, found}
 
@@ -82,6 +86,24 @@ keep_x_before_sixth = refl
 -- in `f` alone
 keep_x_in_f : found (fold two_writes (hooks [] (point 2 place.Write [] (safe apart_from_x ∷ []) ∷ [])) two_writes_steps) ≡ (true ∷ [])
 keep_x_in_f = refl
+
+-- ---- a list that isn't traced: a turn of `main` before its Enter. The fold of its first step isn't the beginning of the fold of both
+
+abbrev holding : ℤ → Memory
+holding z = record { globals = (record { declared = int; cell = Holds (value.Int z) } ∷ []) ∷ (record { declared = int; cell = Nothing } ∷ []) ∷ []; frames = record { activation = 0; locals = [] } ∷ [] }
+
+abbrev turn_before_enter : List Step
+turn_before_enter = record { action = act.Turn; function = 3; activation = 0; memory = holding (pos 1) } ∷ record { action = act.Enter 3 []; function = 3; activation = 0; memory = holding (pos 1) } ∷ []
+
+-- at each step: `x == \at(x, Pre)`
+abbrev unchanged : Hooks
+unchanged = hooks [] (point 3 place.Changed [] (safe (is.Relation comparing.Equal (read names.Global 0) (t.AtPre (p.Own (variable names.Global 0)) int)) ∷ []) ∷ [])
+
+turn_alone : found (fold two_writes unchanged (take 1 turn_before_enter)) ≡ (false ∷ [])
+turn_alone = refl
+
+turn_among_both : found (items_to 1 (fold two_writes unchanged turn_before_enter)) ≡ (true ∷ [])
+turn_among_both = refl
 
 -- ---- places and actions: a verdict at each step that a point of `main` fits
 

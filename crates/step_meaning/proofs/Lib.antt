@@ -39,3 +39,5 @@ mod Nesting
 mod NestingRuns
 mod NestingLists
 pub mod TracedRuns
+pub mod FoldPrefixes
+pub mod JudgedExamples

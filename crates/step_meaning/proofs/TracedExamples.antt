@@ -11,23 +11,23 @@ use Rattle.step_meaning.specs.Limits.{is_enter}
 use Rattle.step_meaning.specs.Traced.{is_return, IsProgramMemory, ParametersHold, IsStepOf, IsTraced, BlocksTyped, At}
 use Rattle.step_meaning.proofs.Examples.{empty_main, declared, function, int, lit, return}
 
-abbrev open_frame : Frame
+abbrev pub open_frame : Frame
 open_frame = record { activation = 0; locals = [] }
 
-abbrev open_memory : Memory
+abbrev pub open_memory : Memory
 open_memory = record { globals = []; frames = open_frame ∷ [] }
 
 -- no activation is open
 abbrev closed_memory : Memory
 closed_memory = record { globals = []; frames = [] }
 
-abbrev enter_in : Memory → Step
+abbrev pub enter_in : Memory → Step
 enter_in memory = record { action = act.Enter 2 []; function = 2; activation = 0; memory = memory }
 
-abbrev leave_in : Memory → Step
+abbrev pub leave_in : Memory → Step
 leave_in memory = record { action = act.Return 2 (Some (value.Int (pos 0))); function = 2; activation = 0; memory = memory }
 
-abbrev enter : Step
+abbrev pub enter : Step
 enter = enter_in open_memory
 
 abbrev turn : Step
@@ -96,7 +96,7 @@ module _ (memory : Memory) (fits : IsProgramMemory empty_main memory) where
     main_ends = λ i s a h. at_either (λ i s. IsTrue (is_return s.action) → suc i ≡ 2) (λ e. absurd (true_is_not_false e)) (λ e. refl) i s a;
   }
 
-empty_main_traced : IsTraced empty_main (enter ∷ leave_in open_memory ∷ [])
+pub empty_main_traced : IsTraced empty_main (enter ∷ leave_in open_memory ∷ [])
 empty_main_traced = enter_and_leave open_memory open_fits
 
 -- that a later step's memory has the variables of its activation isn't asked

@@ -45,3 +45,4 @@ pub mod TermParts
 pub mod Scopes
 pub mod Fit
 pub mod FitsBounded
+pub mod FoldPrefixes

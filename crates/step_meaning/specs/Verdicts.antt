@@ -17,6 +17,13 @@ verdicts_before (suc n) [] = []
 verdicts_before (suc n) (Made s ∷ is) = verdicts_before n is
 verdicts_before (suc n) (Judged v ∷ is) = v ∷ verdicts_before (suc n) is
 
+-- the items up to the n-th step and with it, or all where there are fewer steps
+abbrev pub items_to : ℕ → List Item → List Item
+items_to zero is = []
+items_to (suc n) [] = []
+items_to (suc n) (Made s ∷ is) = Made s ∷ items_to n is
+items_to (suc n) (Judged v ∷ is) = Judged v ∷ items_to (suc n) is
+
 -- the Safe verdicts of the monitor are all true
 abbrev pub AreSafe : ℕ → List Verdict → Type 0
 AreSafe j vs = AllByRecursion (λ v. v.monitor ≡ j → v.kind ≡ Safe → v.truth ≡ true) vs

@@ -1,6 +1,7 @@
 ghost use Rattle.step_meaning.specs.FaultsHalt.{WellFormedFaultsHalt};
 ghost use Rattle.step_meaning.specs.First.{SameFirstSteps};
 ghost use Rattle.step_meaning.specs.FitsBounded.{FitsBounded, TracedSightsTyped};
+ghost use Rattle.step_meaning.specs.FoldPrefixes.{FoldsPrefixes};
 ghost use Rattle.step_meaning.specs.Limits.{OutcomeComputed};
 ghost use Rattle.step_meaning.specs.Runs.{FlowsAgree};
 ghost use Rattle.step_meaning.specs.TracedRuns.{WellFormedTraced};
@@ -39,4 +40,9 @@ pub fn traced_sights_typed()
 /// The steps of a run of a well-formed program, on any input and for any bound, are a traced list.
 pub fn runs_are_traced()
     ensures { WellFormedTraced }
+{}
+
+/// The fold of the first steps of a traced list is the beginning of the fold of the list.
+pub fn folds_prefixes()
+    ensures { FoldsPrefixes }
 {}
