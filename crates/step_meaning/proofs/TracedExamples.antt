@@ -9,6 +9,7 @@ use Rattle.step_meaning.specs.Steps.{Step, steps}
 use Rattle.step_meaning.specs.Runs.{run}
 use Rattle.step_meaning.specs.Limits.{is_enter}
 use Rattle.step_meaning.specs.Traced.{is_return, IsProgramMemory, ParametersHold, IsStepOf, IsTraced, BlocksTyped, At}
+use Rattle.step_meaning.specs.TracedRuns.{EachHasVariables}
 use Rattle.step_meaning.proofs.Examples.{empty_main, declared, function, int, lit, return}
 
 abbrev pub open_frame : Frame
@@ -102,6 +103,13 @@ empty_main_traced = enter_and_leave open_memory open_fits
 -- that a later step's memory has the variables of its activation isn't asked
 closed_before_return : IsTraced empty_main (enter ∷ leave_in closed_memory ∷ [])
 closed_before_return = enter_and_leave closed_memory closed_fits
+
+-- a run has no such steps
+not_of_a_run : EachHasVariables empty_main (enter ∷ leave_in closed_memory ∷ []) → ⊥
+not_of_a_run has = none_is_not_some own.0 own.1
+  where
+    own : (r : Frame) × (None ≡ Some r)
+    own = (has 1 (leave_in closed_memory) refl).own
 
 -- an Enter in a memory without the new activation
 closed_at_enter : IsTraced empty_main (enter_in closed_memory ∷ []) → ⊥
