@@ -97,7 +97,7 @@ step_judged view cells (act.Halt f) e h = ((λ safe. refl), λ never. tt)
 abbrev IsOne : ℕ → Type 0
 IsOne g = (g ≡ 2) ⊎ (g ≡ 3)
 
-abbrev with_body : Option Function → Bool
+abbrev pub with_body : Option Function → Bool
 with_body None = false
 with_body (Some f) = has_body f
 

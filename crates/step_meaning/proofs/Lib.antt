@@ -41,3 +41,4 @@ mod NestingLists
 pub mod TracedRuns
 pub mod FoldPrefixes
 pub mod JudgedExamples
+pub mod AcceptedExamples
