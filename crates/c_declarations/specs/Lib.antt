@@ -1,4 +1,3 @@
-pub mod Held
 pub mod Brackets
 pub mod DeclaratorReading
 pub mod DeclaredReading

@@ -4,11 +4,11 @@ ghost use Rattle.std.specs.Prelude.{◌≡◌, []};
 ghost use Rattle.c_grammar.specs.Parsing.{Reads};
 ghost use Rattle.c_expressions.specs.ExpressionReading.{inner_at};
 ghost use Rattle.c_declarations.specs.DeclaratorReading as spec;
-ghost use Rattle.c_declarations.specs.Held.{ReadsAfter};
+ghost use Rattle.c_expressions.specs.Held.{ReadsAfter};
 
 use crate::bracket::then_bracketed;
 use crate::fits::direct_fits;
-use crate::held::then_expect;
+use c_expressions::held::then_expect;
 use c_expressions::types::star;
 use c_grammar::cursor::{Cursor, same};
 use c_grammar::declaration::{Declarator, Direct};

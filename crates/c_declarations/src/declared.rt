@@ -5,12 +5,12 @@ ghost use Rattle.c_grammar.specs.Declarations as grammar;
 ghost use Rattle.c_grammar.specs.Parsing.{Reads};
 ghost use Rattle.c_declarations.specs.DeclaratorReading.{declarator_from};
 ghost use Rattle.c_declarations.specs.DeclaredReading as spec;
-ghost use Rattle.c_declarations.specs.Held.{ReadsAfter};
+ghost use Rattle.c_expressions.specs.Held.{ReadsAfter};
 
 use crate::declarator::declarator;
-use crate::held::{then_expect, unless_refused};
 use crate::init::then_init;
 use c_expressions::chain::chain;
+use c_expressions::held::{then_expect, unless_refused};
 use c_grammar::chain::Chain;
 use c_grammar::cursor::{Cursor, same};
 use c_grammar::declaration::{Declarator, Declared, Direct};

@@ -3,12 +3,12 @@
 ghost use Rattle.std.specs.Prelude.{◌≡◌};
 ghost use Rattle.c_grammar.specs.Follows.{Nests};
 ghost use Rattle.c_grammar.specs.Parsing.{Reads};
-ghost use Rattle.c_declarations.specs.Held.{ReadsAfter};
+ghost use Rattle.c_expressions.specs.Held.{ReadsAfter};
 ghost use Rattle.c_declarations.specs.DeclaredReading as spec;
 
-use crate::held::{then_expect, then_optional};
 use c_expressions::chain::chain;
 use c_expressions::expression::assign;
+use c_expressions::held::{then_expect, then_optional};
 use c_grammar::chain::Chain;
 use c_grammar::cursor::{Cursor, same};
 use c_grammar::declaration::Init;

@@ -6,7 +6,6 @@ pub mod declarator;
 pub mod declared;
 pub mod exactness;
 pub mod fits;
-pub mod held;
 pub mod init;
 pub mod parameter;
 pub mod sizes;

@@ -5,13 +5,13 @@ ghost use Rattle.c_grammar.specs.Declarations as grammar;
 ghost use Rattle.c_grammar.specs.Parsing.{Reads, chain_at};
 ghost use Rattle.c_grammar.specs.Expressions.{is_comma};
 ghost use Rattle.c_declarations.specs.DeclaratorReading.{begins_direct as begins_direct_word};
-ghost use Rattle.c_declarations.specs.Held.{ReadsAfter};
+ghost use Rattle.c_expressions.specs.Held.{ReadsAfter};
 ghost use Rattle.c_declarations.specs.ParameterReading as spec;
 
 use crate::declarator::then_declarator;
-use crate::held::{instead, then_base, then_stars};
 use crate::sizes::then_sizes;
 use c_expressions::chain::chain;
+use c_expressions::held::{instead, then_base, then_stars};
 use c_expressions::types::consts;
 use c_grammar::chain::Chain;
 use c_grammar::cursor::{Cursor, same};

@@ -228,10 +228,10 @@ module _ (k : ℕ) (inner : Inner) (depth_is : inner.depth ≡ k) (assign_sound 
       let y = bind_ok (inner.assign t.mid) _ x rest t.second in
       finish assign (assign-Assign left t.value y.value) y.second (Takes-then first (Takes-then (took _ _ _ _ t.first) (Takes-nested (assign_sound.takes _ _ _ y.first))))
 
-  assigned_by-takes : (left : Unary) (ls : List (Link Unary)) (ts mid : Leaves) (x : Assign) (rest : Leaves) → Takes (suc k) ts (chain is_binary_operator unary (record { first = left; rest = ls })) mid
-      → read.assigned_by inner left ls mid ≡ Some (x, rest) → Takes (suc k) ts (assign x) rest
-  assigned_by-takes left [] ts mid x rest found h = assigned-takes left ts mid x rest (lone-takes left found) (deep-takes inner.depth (read.assigned inner left) mid x rest h)
-  assigned_by-takes left (l ∷ ls) ts mid x rest found h = cc
+  assigned_to-takes : (left : Unary) (ls : List (Link Unary)) (ts mid : Leaves) (x : Assign) (rest : Leaves) → Takes (suc k) ts (chain is_binary_operator unary (record { first = left; rest = ls })) mid
+      → read.assigned_to inner (record { first = left; rest = ls }) mid ≡ Some (x, rest) → Takes (suc k) ts (assign x) rest
+  assigned_to-takes left [] ts mid x rest found h = assigned-takes left ts mid x rest (lone-takes left found) (deep-takes inner.depth (read.assigned inner left) mid x rest h)
+  assigned_to-takes left (l ∷ ls) ts mid x rest found h = cc
 
   assign-takes : (ts : Leaves) (x : Assign) (rest : Leaves) → read.assign inner ts ≡ Some (x, rest) → Takes (suc k) ts (assign x) rest
   unfolding read.assign
@@ -239,7 +239,7 @@ module _ (k : ℕ) (inner : Inner) (depth_is : inner.depth ≡ k) (assign_sound 
       let f = bind_ok (read.flat inner ts) _ x rest h in
       let found = flat-Sound.takes _ _ _ f.first in
       ⊎_elim
-      (λ q. assigned_by-takes f.value.first f.value.rest ts f.mid x rest found q.1)
+      (λ q. assigned_to-takes f.value.first f.value.rest ts f.mid x rest found q.1)
       (λ q.
       let y = bind_ok (read.choice_after inner (or_of f.value) f.mid) _ x rest q.1 in
       finish assign (assign-Choice y.value) y.second (choice_after-takes (or_of f.value) ts f.mid y.value y.mid (takes-or f.value found) y.first))

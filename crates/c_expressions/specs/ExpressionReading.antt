@@ -36,6 +36,11 @@ abbrev pub deep : {A : Type 0} → ℕ → Parser A → Parser A
 deep zero p = refuse
 deep (suc n) p = p
 
+-- an operand that no binary operator follows
+abbrev pub lone : Unary → List (Link Unary) → Parser Unary
+lone left [] = pure left
+lone left (l ∷ ls) = refuse
+
 abbrev pub is_cast : Word → Word → Bool
 is_cast first second = same w.LeftParen first && begins_type second
 
@@ -117,11 +122,13 @@ module _ (inner : Inner) where
   unfoldable pub suffix : Parser Suffix
   suffix = peek >>= suffix_by
 
-  unfoldable pub postfix : Parser Postfix
-  postfix = do
-    first ← primary
+  abbrev pub suffixed : Primary → Parser Postfix
+  suffixed first = do
     more ← run_at is_suffix suffix
     pure (roll-Postfix (record { primary = first; suffixes = more }))
+
+  unfoldable pub postfix : Parser Postfix
+  postfix = primary >>= suffixed
 
   -- ---- operands of binary operators
 
@@ -178,15 +185,18 @@ module _ (inner : Inner) where
     pure (a.Assign left operator right)
 
   -- a lone operand can be assigned to
-  abbrev pub assigned_by : Unary → List (Link Unary) → Parser Assign
-  assigned_by left [] = deep inner.depth (assigned left)
-  assigned_by left (l ∷ ls) = refuse
+  abbrev pub assigned_to : Chain Unary → Parser Assign
+  assigned_to found = do
+    left ← lone found.first found.rest
+    deep inner.depth (assigned left)
+
+  abbrev pub assign_after : Chain Unary → Parser Assign
+  assign_after found = do
+    word ← peek
+    if is_assignment_operator word then assigned_to found else a.Choice <$> choice_after (or_of found)
 
   unfoldable pub assign : Parser Assign
-  assign = do
-    found ← flat
-    word ← peek
-    if is_assignment_operator word then assigned_by found.first found.rest else a.Choice <$> choice_after (or_of found)
+  assign = flat >>= assign_after
 
 -- the parsers of trees that nest below the number
 unfoldable pub inner_at : ℕ → Inner

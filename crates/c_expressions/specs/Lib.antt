@@ -1,5 +1,6 @@
 pub mod TypeReading
 pub mod Grouping
+pub mod Held
 pub mod ExpressionReading
 pub mod Values
 pub mod Measuring

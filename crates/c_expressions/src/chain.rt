@@ -3,7 +3,7 @@
 ghost use Rattle.std.specs.Prelude.{◌≡◌, [], ◌∷◌, ◌++◌, length, OnOk};
 ghost use Rattle.std.specs.Result.{result_map_both};
 ghost use Rattle.c_grammar.specs.Operators.{has, continues};
-ghost use Rattle.c_grammar.specs.Parsing.{Parser, Reads, take_if, links_from, chain_by, run_at};
+ghost use Rattle.c_grammar.specs.Parsing.{Parser, Reads, and_then, pure, links_from, chain_by, run_at};
 ghost use Rattle.c_grammar.specs.Follows.{Follows};
 ghost use Rattle.c_expressions.specs.Values.{Answers};
 
@@ -23,6 +23,7 @@ pub fn push<T: Drop>(list: &mut Vec<T>, item: T) -> Result<(), AllocError>
 }
 
 /// Operators, each with the operand after it.
+#[inline(never)]
 pub fn links<T: Drop, F: Fn(&mut Cursor<'_>) -> Result<T, ParseFault>>(
     alloc: Global,
     tokens: &mut Cursor<'_>,
@@ -45,6 +46,23 @@ pub fn links<T: Drop, F: Fn(&mut Cursor<'_>) -> Result<T, ParseFault>>(
     Ok(found)
 }
 
+/// The chain of a first operand and of what follows it.
+#[inline(never)]
+fn linked<T: Drop, F: Fn(&mut Cursor<'_>) -> Result<T, ParseFault>>(
+    alloc: Global,
+    tokens: &mut Cursor<'_>,
+    operators: Operators,
+    operand: &F,
+    first: T,
+) -> Result<Chain<T>, ParseFault>
+    requires { F.IsAlwaysCallable operand.now }
+    ensures { (parser : Parser T) → Follows parser (F.post operand.now)
+        → Reads (and_then (links_from (continues operators) (has operators) parser (length tokens.old) [] tokens.old) (λ rest. pure (record { first = first; rest = rest }))) result tokens.new }
+{
+    let rest = Items::from_vec(links(alloc, tokens, operators, operand)?);
+    Ok(Chain { first, rest })
+}
+
 /// A first operand, and more of them after operators.
 #[tactic(auto, unfolding(c_grammar::specs::Parsing::chain_by))]
 pub fn chain<T: Drop, F: Fn(&mut Cursor<'_>) -> Result<T, ParseFault>>(
@@ -57,8 +75,7 @@ pub fn chain<T: Drop, F: Fn(&mut Cursor<'_>) -> Result<T, ParseFault>>(
     ensures { (parser : Parser T) → Follows parser (F.post operand.now) → Reads (chain_by (continues operators) (has operators) parser tokens.old) result tokens.new }
 {
     let first = operand(tokens)?;
-    let rest = Items::from_vec(links(alloc, tokens, operators, operand)?);
-    Ok(Chain { first, rest })
+    linked(alloc, tokens, operators, operand, first)
 }
 
 /// Parts one after another, as long as the next word can begin one.

@@ -6,14 +6,17 @@ ghost use Rattle.c_grammar.specs.Words.{same as same_word};
 ghost use Rattle.std.specs.Result.{result_map_both};
 ghost use Rattle.c_grammar.specs.declared.operators.Operators.TheVariants as o;
 ghost use Rattle.c_grammar.specs.Operators.{has, continues};
-ghost use Rattle.c_grammar.specs.Parsing.{Reads, links_from, run_at};
+ghost use Rattle.c_grammar.specs.Parsing.{Reads, and_then, pure, links_from, run_at};
 ghost use Rattle.c_grammar.specs.Follows.{Nests};
 ghost use Rattle.c_expressions.specs.TypeReading as types;
 ghost use Rattle.c_expressions.specs.Grouping as grouping;
+ghost use Rattle.c_expressions.specs.Held.{ReadsAfter};
+ghost use Rattle.c_grammar.specs.declared.expression.Assign.TheVariants as a;
 ghost use Rattle.c_expressions.specs.ExpressionReading as spec;
 
 use crate::chain::{chain, links, run};
-use crate::group::{Flat, or_of};
+use crate::group::{Flat, boxed_or_of};
+use crate::held::{instead, then_expect, then_operator};
 use crate::types::type_name;
 use c_grammar::chain::{Chain, Link};
 use c_grammar::cursor::{Cursor, same};
@@ -99,6 +102,46 @@ impl<
         Ok(Boxed::new(self.alloc, found)?)
     }
 
+    /// An expression that nests, where `held` was read before.
+    fn then_assign<T: Drop>(
+        &self,
+        held: T,
+        tokens: &mut Cursor<'_>,
+    ) -> Result<(T, Boxed<Assign>), ParseFault>
+        requires { Nests (spec.inner_at self.now.depth).assign self.now.depth (A.pre self.now.assign) (A.post self.now.assign) }
+        ensures { ReadsAfter held ((spec.inner_at self.now.depth).assign tokens.old) result tokens.new }
+    {
+        let found = self.nested_assign(tokens)?;
+        Ok((held, found))
+    }
+
+    /// A conditional expression that nests, where `held` was read before.
+    fn then_choice<T: Drop>(
+        &self,
+        held: T,
+        tokens: &mut Cursor<'_>,
+    ) -> Result<(T, Boxed<Choice>), ParseFault>
+        requires { Nests (spec.inner_at self.now.depth).choice self.now.depth (C.pre self.now.choice) (C.post self.now.choice) }
+        ensures { ReadsAfter held ((spec.inner_at self.now.depth).choice tokens.old) result tokens.new }
+    {
+        let found = self.nested_choice(tokens)?;
+        Ok((held, found))
+    }
+
+    /// An operand that nests, where `held` was read before.
+    fn then_unary<T: Drop>(
+        &self,
+        held: T,
+        tokens: &mut Cursor<'_>,
+    ) -> Result<(T, Boxed<Unary>), ParseFault>
+        requires { Nests (spec.inner_at self.now.depth).unary self.now.depth (U.pre self.now.unary) (U.post self.now.unary) }
+        ensures { ReadsAfter held ((spec.inner_at self.now.depth).unary tokens.old) result tokens.new }
+    {
+        let found = self.nested_unary(tokens)?;
+        Ok((held, found))
+    }
+
+    #[inline(never)]
     #[tactic(auto, unfolding(crate::specs::ExpressionReading::arguments))]
     fn arguments(&self, tokens: &mut Cursor<'_>) -> Result<Option<Boxed<Chain<Assign>>>, ParseFault>
         requires { Nests (spec.inner_at self.now.depth).assign self.now.depth (A.pre self.now.assign) (A.post self.now.assign) }
@@ -115,6 +158,7 @@ impl<
         Ok(Some(Boxed::new(self.alloc, found)?))
     }
 
+    #[inline(never)]
     #[tactic(auto, unfolding(crate::specs::ExpressionReading::call))]
     fn call(&self, tokens: &mut Cursor<'_>, name: Leaf) -> Result<Primary, ParseFault>
         requires { Nests (spec.inner_at self.now.depth).assign self.now.depth (A.pre self.now.assign) (A.post self.now.assign) }
@@ -122,7 +166,7 @@ impl<
     {
         let opening = tokens.expect(Word::LeftParen)?;
         let found = self.arguments(tokens)?;
-        let closing = tokens.expect(Word::RightParen)?;
+        let (found, closing) = then_expect(found, tokens, Word::RightParen)?;
         Ok(Primary::Call(name, opening, found, closing))
     }
 
@@ -139,6 +183,7 @@ impl<
         }
     }
 
+    #[inline(never)]
     #[tactic(auto, unfolding(crate::specs::ExpressionReading::parenthesized))]
     fn parenthesized(&self, tokens: &mut Cursor<'_>) -> Result<Primary, ParseFault>
         requires { Nests (spec.inner_at self.now.depth).assign self.now.depth (A.pre self.now.assign) (A.post self.now.assign) }
@@ -146,7 +191,7 @@ impl<
     {
         let opening = tokens.expect(Word::LeftParen)?;
         let found = self.nested_assign(tokens)?;
-        let closing = tokens.expect(Word::RightParen)?;
+        let (found, closing) = then_expect(found, tokens, Word::RightParen)?;
         Ok(Primary::Paren(opening, found, closing))
     }
 
@@ -175,6 +220,7 @@ impl<
         }
     }
 
+    #[inline(never)]
     #[tactic(auto, unfolding(crate::specs::ExpressionReading::index))]
     fn index(&self, tokens: &mut Cursor<'_>) -> Result<Suffix, ParseFault>
         requires { Nests (spec.inner_at self.now.depth).assign self.now.depth (A.pre self.now.assign) (A.post self.now.assign) }
@@ -182,7 +228,7 @@ impl<
     {
         let opening = tokens.expect(Word::LeftBracket)?;
         let found = self.nested_assign(tokens)?;
-        let closing = tokens.expect(Word::RightBracket)?;
+        let (found, closing) = then_expect(found, tokens, Word::RightBracket)?;
         Ok(Suffix::Index(opening, found, closing))
     }
 
@@ -227,16 +273,39 @@ impl<
         run(self.alloc, tokens, &begins, &suffix)
     }
 
+    /// Suffixes, where `held` was read before.
+    fn then_suffixes<T: Drop>(
+        &self,
+        held: T,
+        tokens: &mut Cursor<'_>,
+    ) -> Result<(T, Items<Suffix>), ParseFault>
+        requires { Nests (spec.inner_at self.now.depth).assign self.now.depth (A.pre self.now.assign) (A.post self.now.assign) }
+        ensures { ReadsAfter held (run_at spec.is_suffix (spec.suffix (spec.inner_at self.now.depth)) tokens.old) result tokens.new }
+    {
+        let found = self.suffixes(tokens)?;
+        Ok((held, found))
+    }
+
+    /// The suffixes after what they are written to.
+    #[inline(never)]
+    fn suffixed(&self, tokens: &mut Cursor<'_>, primary: Primary) -> Result<Postfix, ParseFault>
+        requires { Nests (spec.inner_at self.now.depth).assign self.now.depth (A.pre self.now.assign) (A.post self.now.assign) }
+        ensures { Reads (spec.suffixed (spec.inner_at self.now.depth) primary tokens.old) result tokens.new }
+    {
+        let (primary, suffixes) = self.then_suffixes(primary, tokens)?;
+        Ok(Postfix { primary, suffixes })
+    }
+
     #[tactic(auto, unfolding(crate::specs::ExpressionReading::postfix))]
     fn postfix(&self, tokens: &mut Cursor<'_>) -> Result<Postfix, ParseFault>
         requires { Nests (spec.inner_at self.now.depth).assign self.now.depth (A.pre self.now.assign) (A.post self.now.assign) }
         ensures { Reads (spec.postfix (spec.inner_at self.now.depth) tokens.old) result tokens.new }
     {
         let primary = self.primary(tokens)?;
-        let suffixes = self.suffixes(tokens)?;
-        Ok(Postfix { primary, suffixes })
+        self.suffixed(tokens, primary)
     }
 
+    #[inline(never)]
     #[tactic(auto, unfolding(crate::specs::ExpressionReading::prefix))]
     fn prefix(&self, tokens: &mut Cursor<'_>) -> Result<Unary, ParseFault>
         requires { Nests (spec.inner_at self.now.depth).unary self.now.depth (U.pre self.now.unary) (U.post self.now.unary) }
@@ -265,6 +334,7 @@ impl<
         Ok(Boxed::new(self.alloc, found)?)
     }
 
+    #[inline(never)]
     #[tactic(auto, unfolding(crate::specs::ExpressionReading::cast), using(crate::proofs::Depths::inner_depth))]
     fn cast(&self, tokens: &mut Cursor<'_>) -> Result<Unary, ParseFault>
         requires { Nests (spec.inner_at self.now.depth).unary self.now.depth (U.pre self.now.unary) (U.post self.now.unary) }
@@ -272,8 +342,8 @@ impl<
     {
         let opening = tokens.expect(Word::LeftParen)?;
         let kind = self.cast_type(tokens)?;
-        let closing = tokens.expect(Word::RightParen)?;
-        let operand = self.nested_unary(tokens)?;
+        let (kind, closing) = then_expect(kind, tokens, Word::RightParen)?;
+        let (kind, operand) = self.then_unary(kind, tokens)?;
         Ok(Unary::Cast(opening, kind, closing, operand))
     }
 
@@ -319,6 +389,33 @@ impl<
         links(self.alloc, tokens, Operators::Binary, &operand)
     }
 
+    /// The same, where `held` was read before.
+    fn then_operands<T: Drop>(
+        &self,
+        held: T,
+        tokens: &mut Cursor<'_>,
+    ) -> Result<(T, Vec<Link<Unary>>), ParseFault>
+        requires assign { Nests (spec.inner_at self.now.depth).assign self.now.depth (A.pre self.now.assign) (A.post self.now.assign) }
+        requires unary { Nests (spec.inner_at self.now.depth).unary self.now.depth (U.pre self.now.unary) (U.post self.now.unary) }
+        ensures { ReadsAfter held (links_from (continues o.Binary) (has o.Binary) (spec.unary (spec.inner_at self.now.depth)) (length tokens.old) [] tokens.old)
+            (result_map_both (λ p. (p.0, p.1.items)) (λ e. e) result) tokens.new }
+    {
+        let found = self.operands(tokens)?;
+        Ok((held, found))
+    }
+
+    /// The operators and operands after the first operand.
+    #[inline(never)]
+    fn operated(&self, tokens: &mut Cursor<'_>, first: Unary) -> Result<Flat, ParseFault>
+        requires assign { Nests (spec.inner_at self.now.depth).assign self.now.depth (A.pre self.now.assign) (A.post self.now.assign) }
+        requires unary { Nests (spec.inner_at self.now.depth).unary self.now.depth (U.pre self.now.unary) (U.post self.now.unary) }
+        ensures { Reads (and_then (links_from (continues o.Binary) (has o.Binary) (spec.unary (spec.inner_at self.now.depth)) (length tokens.old) [] tokens.old)
+            (λ rest. pure (record { first = first; rest = rest }))) result tokens.new }
+    {
+        let (first, rest) = self.then_operands(first, tokens)?;
+        Ok(Flat { first, rest })
+    }
+
     /// Operands and the binary operators of all levels.
     #[tactic(auto, unfolding(crate::specs::ExpressionReading::flat, c_grammar::specs::Parsing::chain_by))]
     fn flat(&self, tokens: &mut Cursor<'_>) -> Result<Flat, ParseFault>
@@ -327,37 +424,39 @@ impl<
         ensures { Reads (spec.flat (spec.inner_at self.now.depth) tokens.old) result tokens.new }
     {
         let first = self.unary(tokens)?;
-        let rest = self.operands(tokens)?;
-        Ok(Flat { first, rest })
+        self.operated(tokens, first)
     }
 
+    #[inline(never)]
     #[tactic(auto, unfolding(crate::specs::ExpressionReading::choose))]
-    fn choose(&self, tokens: &mut Cursor<'_>, test: Or) -> Result<Choice, ParseFault>
+    fn choose(&self, tokens: &mut Cursor<'_>, test: Boxed<Or>) -> Result<Choice, ParseFault>
         requires assign { Nests (spec.inner_at self.now.depth).assign self.now.depth (A.pre self.now.assign) (A.post self.now.assign) }
         requires choice { Nests (spec.inner_at self.now.depth).choice self.now.depth (C.pre self.now.choice) (C.post self.now.choice) }
         ensures { Reads (spec.choose (spec.inner_at self.now.depth) test tokens.old) result tokens.new }
     {
-        let question = tokens.expect(Word::Question)?;
-        let second = self.nested_assign(tokens)?;
-        let colon = tokens.expect(Word::Colon)?;
-        let third = self.nested_choice(tokens)?;
+        let (test, question) = then_expect(test, tokens, Word::Question)?;
+        let (test, second) = self.then_assign(test, tokens)?;
+        let (held, colon) = then_expect((test, second), tokens, Word::Colon)?;
+        let (held, third) = self.then_choice(held, tokens)?;
+        let (test, second) = held;
         Ok(Choice::Choose(test, question, second, colon, third))
     }
 
     #[tactic(auto, using(crate::proofs::Depths::deep_none, crate::proofs::Depths::deep_some))]
-    fn deep_choose(&self, tokens: &mut Cursor<'_>, test: Or) -> Result<Choice, ParseFault>
+    fn deep_choose(&self, tokens: &mut Cursor<'_>, test: Boxed<Or>) -> Result<Choice, ParseFault>
         requires assign { Nests (spec.inner_at self.now.depth).assign self.now.depth (A.pre self.now.assign) (A.post self.now.assign) }
         requires choice { Nests (spec.inner_at self.now.depth).choice self.now.depth (C.pre self.now.choice) (C.post self.now.choice) }
         ensures { Reads (spec.deep (spec.inner_at self.now.depth).depth (spec.choose (spec.inner_at self.now.depth) test) tokens.old) result tokens.new }
     {
         if self.depth == 0 {
-            return Err(tokens.refuse());
+            return Err(instead(test, tokens.refuse()));
         }
         self.choose(tokens, test)
     }
 
+    /// A conditional expression after its condition.
     #[tactic(auto, unfolding(crate::specs::ExpressionReading::choice_after))]
-    fn choice_after(&self, tokens: &mut Cursor<'_>, test: Or) -> Result<Choice, ParseFault>
+    fn choice_after(&self, tokens: &mut Cursor<'_>, test: Boxed<Or>) -> Result<Choice, ParseFault>
         requires assign { Nests (spec.inner_at self.now.depth).assign self.now.depth (A.pre self.now.assign) (A.post self.now.assign) }
         requires choice { Nests (spec.inner_at self.now.depth).choice self.now.depth (C.pre self.now.choice) (C.post self.now.choice) }
         ensures { Reads (spec.choice_after (spec.inner_at self.now.depth) test tokens.old) result tokens.new }
@@ -369,6 +468,17 @@ impl<
         }
     }
 
+    /// A conditional expression after the operands of its condition.
+    #[inline(never)]
+    fn choice_of(&self, tokens: &mut Cursor<'_>, found: Flat) -> Result<Choice, ParseFault>
+        requires assign { Nests (spec.inner_at self.now.depth).assign self.now.depth (A.pre self.now.assign) (A.post self.now.assign) }
+        requires choice { Nests (spec.inner_at self.now.depth).choice self.now.depth (C.pre self.now.choice) (C.post self.now.choice) }
+        ensures { Reads (spec.choice_after (spec.inner_at self.now.depth) (grouping.or_of found) tokens.old) result tokens.new }
+    {
+        let test = boxed_or_of(self.alloc, found)?;
+        self.choice_after(tokens, test)
+    }
+
     #[tactic(auto, unfolding(crate::specs::ExpressionReading::choice))]
     fn choice(&self, tokens: &mut Cursor<'_>) -> Result<Choice, ParseFault>
         requires assign { Nests (spec.inner_at self.now.depth).assign self.now.depth (A.pre self.now.assign) (A.post self.now.assign) }
@@ -377,17 +487,17 @@ impl<
         ensures { Reads (spec.choice (spec.inner_at self.now.depth) tokens.old) result tokens.new }
     {
         let found = self.flat(tokens)?;
-        let test = or_of(self.alloc, found)?;
-        self.choice_after(tokens, test)
+        self.choice_of(tokens, found)
     }
 
+    #[inline(never)]
     #[tactic(auto, unfolding(crate::specs::ExpressionReading::assigned))]
     fn assigned(&self, tokens: &mut Cursor<'_>, left: Unary) -> Result<Assign, ParseFault>
         requires { Nests (spec.inner_at self.now.depth).assign self.now.depth (A.pre self.now.assign) (A.post self.now.assign) }
         ensures { Reads (spec.assigned (spec.inner_at self.now.depth) left tokens.old) result tokens.new }
     {
-        let operator = tokens.operator(Operators::Assignment)?;
-        let right = self.nested_assign(tokens)?;
+        let (left, operator) = then_operator(left, tokens, Operators::Assignment)?;
+        let (left, right) = self.then_assign(left, tokens)?;
         Ok(Assign::Assign(left, operator, right))
     }
 
@@ -397,9 +507,39 @@ impl<
         ensures { Reads (spec.deep (spec.inner_at self.now.depth).depth (spec.assigned (spec.inner_at self.now.depth) left) tokens.old) result tokens.new }
     {
         if self.depth == 0 {
-            return Err(tokens.refuse());
+            return Err(instead(left, tokens.refuse()));
         }
         self.assigned(tokens, left)
+    }
+
+    /// An assignment to an operand, which stands alone.
+    fn assigned_to(&self, tokens: &mut Cursor<'_>, found: Flat) -> Result<Assign, ParseFault>
+        requires { Nests (spec.inner_at self.now.depth).assign self.now.depth (A.pre self.now.assign) (A.post self.now.assign) }
+        ensures { Reads (spec.assigned_to (spec.inner_at self.now.depth) found tokens.old) result tokens.new }
+    {
+        let left = found.lone(tokens)?;
+        self.deep_assigned(tokens, left)
+    }
+
+    fn condition(&self, tokens: &mut Cursor<'_>, found: Flat) -> Result<Assign, ParseFault>
+        requires assign { Nests (spec.inner_at self.now.depth).assign self.now.depth (A.pre self.now.assign) (A.post self.now.assign) }
+        requires choice { Nests (spec.inner_at self.now.depth).choice self.now.depth (C.pre self.now.choice) (C.post self.now.choice) }
+        ensures { Reads (and_then (spec.choice_after (spec.inner_at self.now.depth) (grouping.or_of found) tokens.old) (λ c. pure (a.Choice c))) result tokens.new }
+    {
+        Ok(Assign::Choice(self.choice_of(tokens, found)?))
+    }
+
+    #[inline(never)]
+    fn assign_after(&self, tokens: &mut Cursor<'_>, found: Flat) -> Result<Assign, ParseFault>
+        requires assign { Nests (spec.inner_at self.now.depth).assign self.now.depth (A.pre self.now.assign) (A.post self.now.assign) }
+        requires choice { Nests (spec.inner_at self.now.depth).choice self.now.depth (C.pre self.now.choice) (C.post self.now.choice) }
+        ensures { Reads (spec.assign_after (spec.inner_at self.now.depth) found tokens.old) result tokens.new }
+    {
+        if Operators::Assignment.has(tokens.peek()) {
+            self.assigned_to(tokens, found)
+        } else {
+            self.condition(tokens, found)
+        }
     }
 
     #[tactic(auto, unfolding(crate::specs::ExpressionReading::assign))]
@@ -410,16 +550,7 @@ impl<
         ensures { Reads (spec.assign (spec.inner_at self.now.depth) tokens.old) result tokens.new }
     {
         let found = self.flat(tokens)?;
-        if !Operators::Assignment.has(tokens.peek()) {
-            let test = or_of(self.alloc, found)?;
-            return Ok(Assign::Choice(self.choice_after(tokens, test)?));
-        }
-        let Flat { first, rest } = found;
-        if rest.is_empty() {
-            self.deep_assigned(tokens, first)
-        } else {
-            Err(tokens.refuse())
-        }
+        self.assign_after(tokens, found)
     }
 }
 

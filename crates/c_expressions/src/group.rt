@@ -4,17 +4,22 @@ ghost use Rattle.std.specs.Prelude.{◌≡◌, [], ◌∷◌, ◌++◌, IfOk, On
 ghost use Rattle.c_grammar.specs.declared.chain.Chain.{Chain as ChainValue};
 ghost use Rattle.c_grammar.specs.declared.expression.Unary.{Unary as UnaryValue};
 ghost use Rattle.c_grammar.specs.Operators.{has};
+ghost use Rattle.c_grammar.specs.Parsing.{Reads};
+ghost use Rattle.c_expressions.specs.ExpressionReading.{lone};
 ghost use Rattle.c_expressions.specs.Grouping as spec;
 ghost use Rattle.c_expressions.specs.Values.{Makes};
 
 use crate::chain::push;
+use crate::held::{instead, unless_refused};
 use c_grammar::chain::{Chain, Link};
+use c_grammar::cursor::Cursor;
 use c_grammar::expression::{
     And, BitAnd, BitOr, BitXor, Equal, Or, Product, Relation, Shift, Sum, Unary,
 };
+use c_grammar::fault::ParseFault;
 use c_grammar::operators::Operators;
 use c_grammar::word::Leaf;
-use sqlite_items::Items;
+use sqlite_items::{Boxed, Items};
 use std::alloc::{AllocError, Global};
 use std::marker::Model;
 
@@ -46,6 +51,16 @@ impl Flat {
             first,
             rest: Vec::new(alloc),
         }
+    }
+
+    /// The operand, or a fault at the next token where operators follow it.
+    pub fn lone(self, tokens: &Cursor<'_>) -> Result<Unary, ParseFault>
+        ensures { Reads (lone self.first self.rest tokens.now) result tokens.now }
+    {
+        let Flat { first, rest } = self;
+        let refused = !rest.is_empty();
+        let first = instead(rest, first);
+        unless_refused(first, tokens, refused)
     }
 
     fn push(&mut self, link: Link<Unary>) -> Result<(), AllocError>
@@ -171,8 +186,17 @@ fn and_of(alloc: Global, flat: Flat) -> Result<And, AllocError>
 
 /// The tree of the operands.
 #[tactic(auto, unfolding(crate::specs::Grouping::or_of))]
-pub fn or_of(alloc: Global, flat: Flat) -> Result<Or, AllocError>
+fn or_of(alloc: Global, flat: Flat) -> Result<Or, AllocError>
     ensures { IfOk result (λ r. r ≡ spec.or_of flat) }
 {
     Ok(Or(group(alloc, Operators::Or, flat, &and_of)?))
+}
+
+/// The same, in a box.
+#[inline(never)]
+pub fn boxed_or_of(alloc: Global, flat: Flat) -> Result<Boxed<Or>, AllocError>
+    ensures { IfOk result (λ r. r ≡ spec.or_of flat) }
+{
+    let found = or_of(alloc, flat)?;
+    Boxed::new(alloc, found)
 }

@@ -5,5 +5,6 @@ pub mod chain;
 pub mod exactness;
 pub mod expression;
 pub mod group;
+pub mod held;
 pub mod nesting;
 pub mod types;

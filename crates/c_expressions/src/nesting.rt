@@ -291,9 +291,9 @@ impl<
         ensures { result ≡ nat_lt (choice tree.now).nesting (suc self.now.below) }
     {
         match tree {
-            Choice::Or(test) => self.or(test),
+            Choice::Or(test) => self.or(test.get()),
             Choice::Choose(test, _, second, _, third) => {
-                self.or(test)
+                self.or(test.get())
                     && (self.assign)(second.get(), self.below)
                     && (self.choice)(third.get(), self.below)
             }

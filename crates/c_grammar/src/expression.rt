@@ -18,9 +18,10 @@ pub enum Assign {
 #[cycle(expression)]
 #[derive(Drop)]
 pub enum Choice {
-    Or(Or),
+    /// In a box, so that an expression is small to move.
+    Or(Boxed<Or>),
     /// A condition, `?`, the second part, `:` and the third part.
-    Choose(Or, Leaf, Boxed<Assign>, Leaf, Boxed<Choice>),
+    Choose(Boxed<Or>, Leaf, Boxed<Assign>, Leaf, Boxed<Choice>),
 }
 
 #[cycle(expression)]

@@ -83,7 +83,8 @@ pub enum Word {
     Meta,
     Ghost,
     Assert,
-    /// A keyword that the grammar doesn't use.
+    /// A token that no rule of the grammar takes: a keyword that isn't used, a punctuator of annotations alone,
+    /// a word after a backslash or a percent sign, or a string.
     Unused,
     /// No token: the end of the text.
     End,

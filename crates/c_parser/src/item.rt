@@ -6,14 +6,14 @@ ghost use Rattle.c_grammar.specs.Programs as grammar;
 ghost use Rattle.c_grammar.specs.Parsing.{Reads, take_if, run_at};
 ghost use Rattle.c_statements.specs.StatementReading.{unless};
 ghost use Rattle.c_declarations.specs.DeclaredReading as declared_spec;
-ghost use Rattle.c_declarations.specs.Held.{ReadsAfter};
+ghost use Rattle.c_expressions.specs.Held.{ReadsAfter};
 ghost use Rattle.c_parser.specs.ItemReading as spec;
 
 use crate::look::{begins_function, begins_type, is_function_prefix, is_struct};
 use c_declarations::declared::{all_declared, then_all_declared, then_declarators};
-use c_declarations::held::{then_base, then_expect, then_stars, unless_refused};
 use c_declarations::parameter::then_params;
 use c_expressions::chain::run;
+use c_expressions::held::{then_base, then_expect, then_stars, unless_refused};
 use c_expressions::types::consts;
 use c_grammar::chain::{Chain, Link};
 use c_grammar::cursor::{Cursor, same};

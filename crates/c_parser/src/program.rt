@@ -7,8 +7,8 @@ ghost use Rattle.c_parser.specs.ItemReading as spec;
 ghost use Rattle.c_parser.specs.ItemReading.{IsWhole};
 
 use crate::item::{ItemReader, begins_item};
-use c_declarations::held::unless_refused;
 use c_expressions::chain::run;
+use c_expressions::held::unless_refused;
 use c_grammar::cursor::Cursor;
 use c_grammar::fault::ParseFault;
 use c_grammar::leaf::leaves_of;

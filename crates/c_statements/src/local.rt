@@ -2,11 +2,11 @@
 
 ghost use Rattle.std.specs.Prelude.{◌≡◌};
 ghost use Rattle.c_grammar.specs.Parsing.{Reads};
-ghost use Rattle.c_declarations.specs.Held.{ReadsAfter};
+ghost use Rattle.c_expressions.specs.Held.{ReadsAfter};
 ghost use Rattle.c_statements.specs.StatementReading as spec;
 
 use c_declarations::declared::all_declared;
-use c_declarations::held::{then_base, then_expect};
+use c_expressions::held::{then_base, then_expect};
 use c_expressions::types::{base, consts};
 use c_grammar::chain::Chain;
 use c_grammar::cursor::{Cursor, same};

@@ -6,13 +6,14 @@ ghost use Rattle.c_grammar.specs.declared.statement.BlockPart.TheVariants as b;
 ghost use Rattle.c_grammar.specs.Parsing.{Reads, pure};
 
 use crate::head::{Control, Head};
-use c_declarations::held::{boxed, pushed};
+use c_expressions::held::{boxed, pushed};
 use c_grammar::fault::ParseFault;
 use c_grammar::statement::{BlockPart, Local, Stmt};
 use c_grammar::word::Leaf;
 use sqlite_items::{Boxed, Items};
 use std::alloc::Global;
 
+#[inline(never)]
 pub fn if_of(
     alloc: Global,
     front: Boxed<Head>,
@@ -29,6 +30,7 @@ pub fn if_of(
     boxed(alloc, Stmt::If(first, opening, test, closing, body))
 }
 
+#[inline(never)]
 pub fn if_else_of(
     alloc: Global,
     front: Boxed<Head>,
@@ -50,6 +52,7 @@ pub fn if_else_of(
     )
 }
 
+#[inline(never)]
 pub fn while_of(
     alloc: Global,
     front: Boxed<Head>,
@@ -66,6 +69,7 @@ pub fn while_of(
     boxed(alloc, Stmt::While(first, opening, test, closing, body))
 }
 
+#[inline(never)]
 pub fn do_of(
     alloc: Global,
     first: Leaf,
@@ -87,6 +91,7 @@ pub fn do_of(
     )
 }
 
+#[inline(never)]
 pub fn for_of(
     alloc: Global,
     control: Boxed<Control>,
@@ -109,12 +114,14 @@ pub fn for_of(
     )
 }
 
+#[inline(never)]
 pub fn push_stmt(held: Items<BlockPart>, stmt: Boxed<Stmt>) -> Result<Items<BlockPart>, ParseFault>
     ensures { (rest : _) → Reads (pure (held ++ b.Stmt stmt ∷ []) rest) result rest }
 {
     pushed(held, BlockPart::Stmt(stmt.into_inner()))
 }
 
+#[inline(never)]
 pub fn push_local(held: Items<BlockPart>, found: Local) -> Result<Items<BlockPart>, ParseFault>
     ensures { (rest : _) → Reads (pure (held ++ b.Local found ∷ []) rest) result rest }
 {

@@ -7,7 +7,7 @@ ghost use Rattle.c_grammar.specs.declared.word.Word.TheVariants as w;
 ghost use Rattle.c_grammar.specs.Parsing.{Reads, and_then, pure, run_at};
 ghost use Rattle.c_grammar.specs.Follows.{Nests};
 ghost use Rattle.c_expressions.specs.ExpressionReading.{deep, inner_at};
-ghost use Rattle.c_declarations.specs.Held.{ReadsAfter};
+ghost use Rattle.c_expressions.specs.Held.{ReadsAfter};
 ghost use Rattle.c_statements.specs.StatementReading as spec;
 ghost use Rattle.c_statements.specs.StatementReading.{stmt_at, at_level};
 
@@ -16,8 +16,8 @@ use crate::local::{begins_local, local};
 use crate::made::{do_of, for_of, if_else_of, if_of, push_local, push_stmt, while_of};
 use crate::part::begins_part;
 use crate::value::{then_up_to, up_to};
-use c_declarations::held::{boxed, then_expect};
 use c_expressions::expression::assign;
+use c_expressions::held::{boxed, then_expect};
 use c_grammar::cursor::{Cursor, same};
 use c_grammar::fault::ParseFault;
 use c_grammar::statement::{Block, BlockPart, ForFirst, Local, Stmt};
@@ -39,6 +39,7 @@ fn then_local<T: Drop>(
 }
 
 /// One more part of a block, which is a declaration.
+#[inline(never)]
 fn one_more_local(
     held: Items<BlockPart>,
     alloc: Global,
@@ -95,6 +96,7 @@ impl<S: Fn(Global, &mut Cursor<'_>, usize) -> Result<Boxed<Stmt>, ParseFault>> S
         boxed(self.alloc, Stmt::Assert(annotation))
     }
 
+    #[inline(never)]
     #[tactic(auto, unfolding(crate::specs::StatementReading::expression))]
     fn expression(&self, tokens: &mut Cursor<'_>) -> Result<Boxed<Stmt>, ParseFault>
         ensures { Reads (at_level spec.expression self.now.here self.now.inside tokens.old) result tokens.new }
@@ -122,6 +124,7 @@ impl<S: Fn(Global, &mut Cursor<'_>, usize) -> Result<Boxed<Stmt>, ParseFault>> S
         boxed(self.alloc, Stmt::Continue(first, semicolon))
     }
 
+    #[inline(never)]
     #[tactic(auto, unfolding(crate::specs::StatementReading::return_stmt))]
     fn return_stmt(&self, tokens: &mut Cursor<'_>) -> Result<Boxed<Stmt>, ParseFault>
         ensures { Reads (at_level spec.return_stmt self.now.here self.now.inside tokens.old) result tokens.new }
@@ -132,6 +135,7 @@ impl<S: Fn(Global, &mut Cursor<'_>, usize) -> Result<Boxed<Stmt>, ParseFault>> S
     }
 
     /// A word, and a condition in parentheses.
+    #[inline(never)]
     #[tactic(auto, unfolding(crate::specs::StatementReading::head))]
     fn head(&self, tokens: &mut Cursor<'_>, word: Word) -> Result<Boxed<Head>, ParseFault>
         ensures { Reads (at_level spec.head self.now.here self.now.inside word tokens.old) result tokens.new }
@@ -246,6 +250,7 @@ impl<S: Fn(Global, &mut Cursor<'_>, usize) -> Result<Boxed<Stmt>, ParseFault>> S
     }
 
     /// `for`, and what stands in parentheses after it.
+    #[inline(never)]
     #[tactic(auto, unfolding(crate::specs::StatementReading::control))]
     fn control(&self, tokens: &mut Cursor<'_>) -> Result<Boxed<Control>, ParseFault>
         ensures { Reads (at_level spec.control self.now.here self.now.inside tokens.old) result tokens.new }

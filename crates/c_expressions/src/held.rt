@@ -1,13 +1,15 @@
 //! Steps of a reader that hold what was read before. They are generic, so that no caller lets a tree go.
 
 ghost use Rattle.std.specs.Prelude.{◌≡◌, [], ◌∷◌, ◌++◌};
-ghost use Rattle.c_grammar.specs.Parsing.{Reads, pure, expect, optional_at};
+ghost use Rattle.c_grammar.specs.Operators.{has};
+ghost use Rattle.c_grammar.specs.Parsing.{Reads, pure, take_if, expect, optional_at};
 ghost use Rattle.c_expressions.specs.TypeReading as types;
-ghost use Rattle.c_declarations.specs.Held.{ReadsAfter, pure_unless};
+ghost use Rattle.c_expressions.specs.Held.{ReadsAfter, pure_unless};
 
-use c_expressions::types::{base, stars};
+use crate::types::{base, stars};
 use c_grammar::cursor::Cursor;
 use c_grammar::fault::ParseFault;
+use c_grammar::operators::Operators;
 use c_grammar::types::{Base, Star};
 use c_grammar::word::{Leaf, Word};
 use sqlite_items::{Boxed, Items};
@@ -34,6 +36,18 @@ pub fn then_optional<T: Drop>(
     ensures { ReadsAfter held (optional_at word tokens.old) result tokens.new }
 {
     let found = tokens.optional(word)?;
+    Ok((held, found))
+}
+
+/// Takes one of the operators after `held`.
+pub fn then_operator<T: Drop>(
+    held: T,
+    tokens: &mut Cursor<'_>,
+    operators: Operators,
+) -> Result<(T, Leaf), ParseFault>
+    ensures { ReadsAfter held (take_if (has operators) tokens.old) result tokens.new }
+{
+    let found = tokens.operator(operators)?;
     Ok((held, found))
 }
 
