@@ -12,8 +12,6 @@ mod program;
 mod reader;
 mod scope;
 mod statement;
-#[cfg(test)]
-mod tests;
 mod tree;
 
 pub use c_grammar::word::Mode;

@@ -1,11 +1,11 @@
 //! Whole programs: what is read and what is refused, with the places, and how deep a text may nest.
-use crate::{Mode, parse_program};
 use c_grammar::expression::{Assign, Choice, Sum};
 use c_grammar::fault::ParseFault;
 use c_grammar::program::{Body, Item, ProgramTree};
 use c_grammar::statement::{BlockPart, Stmt};
 use c_grammar::word::Word;
 use c_lexer::{Place, lex};
+use c_parser::{Mode, parse_program};
 use std::test::Fail;
 
 fn parse(
