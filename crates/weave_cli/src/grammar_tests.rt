@@ -245,13 +245,14 @@ type Nest = (
     usize,
 );
 
-const NESTS: [Nest; 22] = [
+const NESTS: [Nest; 24] = [
     ("int main(void) { return ", "(", "0", ")", "; }", 1),
     ("int main(void) { return ", "- ", "0", "", "; }", 1),
     ("int main(void) { return ", "(int) ", "0", "", "; }", 1),
     ("int main(void) { return ", "f(", "0", ")", "; }", 1),
     ("int main(void) { return ", "0 + f(1, ", "0", ")", "; }", 1),
     ("int main(void) { return ", "a[", "0", "]", "; }", 1),
+    ("int main(void) { return ", "0 + a[1][", "0", "]", "; }", 1),
     ("int main(void) { return ", "a = ", "0", "", "; }", 1),
     ("int main(void) { return ", "a ? b : ", "0", "", "; }", 1),
     ("int main(void) { return ", "a ? ", "0", " : b", "; }", 1),
@@ -262,6 +263,7 @@ const NESTS: [Nest; 22] = [
     ("int main(void) { ", "do ", ";", " while (a);", " }", 1),
     ("int main(void) { ", "for (;;) ", ";", "", " }", 1),
     ("int x = ", "{", "1", "}", ";", 0),
+    ("int x = ", "{0, ", "1", "}", ";", 0),
     ("int ", "(", "x", ")", ";", 0),
     ("int ", "*", "x", "", ";", 0),
     ("int x", "[1]", "", "", ";", 0),
@@ -306,23 +308,22 @@ fn nests_64_deep_in_a_source(rt: HostRuntime) -> Result<(), Fail> {
     Ok(())
 }
 
-/// The first rows nest as deep as a woven text may.
 #[test]
 fn nests_1024_deep_in_a_woven_text(rt: HostRuntime) -> Result<(), Fail> {
-    let [parentheses, prefixes, casts, ..] = NESTS;
-    expect_nested(&rt, parentheses, Mode::Woven, 1024)?;
-    expect_nested(&rt, prefixes, Mode::Woven, 1024)?;
-    expect_nested(&rt, casts, Mode::Woven, 1024)
-}
-
-/// All rows nest half as deep: calls and loops take more stack a level, and what a woven text may have of them at most is
-/// more than the eight megabytes that a program is given.
-#[test]
-fn nests_512_deep_in_a_woven_text(rt: HostRuntime) -> Result<(), Fail> {
     for row in NESTS {
-        expect_repeated(&rt, row, 512, Mode::Woven, "ok")?;
+        expect_nested(&rt, row, Mode::Woven, 1024)?;
     }
     Ok(())
+}
+
+/// Half of the levels are loops, and the others calls.
+#[test]
+fn nests_calls_in_loops_in_a_woven_text(rt: HostRuntime) -> Result<(), Fail> {
+    let loops = ("int main(void) { ", "for (;;) ", "", "", "", 0);
+    let calls = ("", "0 + f(1, ", "0", ")", "; }", 0);
+    let mut text = repeated(&rt, loops, 511)?;
+    text.push_str(repeated(&rt, calls, 511)?.as_str())?;
+    expect_shown(&rt, text.as_str(), Mode::Woven, "ok")
 }
 
 /// Where a source that nests too deep is refused: what is repeated how often, and the place.
@@ -397,7 +398,8 @@ fn is_grouped_from_the_left(Sum(chain): &Sum) -> bool {
 fn has_chain(value: &Assign) -> bool {
     match value {
         Assign::Choice(Choice::Or(or)) => is_grouped_from_the_left(
-            &or.0
+            &or.get()
+                .0
                 .first
                 .0
                 .first
