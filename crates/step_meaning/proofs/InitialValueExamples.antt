@@ -109,7 +109,7 @@ one_is_not_zero e = omega arith
 struct_address : IsWellFormed (starting ((value.Int (pos 5) ∷ value.Null ∷ []) ∷ (value.Pointer list 1 ∷ []) ∷ [])) → ⊥
 struct_address w = ⊎_elim (λ a. no a.1) (λ r. ⊎_elim (λ a. one_is_not_zero a.0) (λ a. no a.1) r) (node_part int 1 w.initial.1.0.0.part.1)
 
--- int *where = a pointer past the variable, to a local, and to a variable that isn't there
+-- int *where = a pointer past the variable, and one to a local
 past_the_variable : IsWellFormed (starting ((value.Int (pos 5) ∷ value.Null ∷ []) ∷ (value.Pointer list 2 ∷ []) ∷ [])) → ⊥
 past_the_variable w = below w.initial.1.0.0.part.0
   where

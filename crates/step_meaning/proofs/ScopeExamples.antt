@@ -47,7 +47,7 @@ kept =
 one_name_twice : IsScope (entry 120 int ∷ entry 120 int ∷ []) (core [] []) → ⊥
 one_name_twice h = h.distinct_entries 0 1 (entry 120 int) (lit< tt) (lit< tt) refl
 
--- two names for one variable, also with two types, are no fault: a term has the type of the name by which it was read
+-- two names for one variable, also with two types, break no rule on scopes
 abbrev first : List ℕ → ℕ
 first [] = 0
 first (n ∷ ns) = n

@@ -1,4 +1,4 @@
--- The steps of a program are a traced list, and so is one that the definition asks no more of; lists that break a point of it are none.
+-- The steps of a program are a traced list, and so is a list that no run makes. Lists that break a point of the definition aren't traced.
 use Rattle.std.proofs.Common.{◌≡◌, ℕ, zero, suc, ◌≤◌, true, false, [], ◌∷◌, Option, Some, None, refl, sym, ap, subst, ◌∙◌, arith}
 use Rattle.std.specs.Prelude.{IsTrue, All, pos}
 use Rattle.step_meaning.specs.declared.value.Value.TheVariants as value
@@ -100,7 +100,7 @@ module _ (memory : Memory) (fits : IsProgramMemory empty_main memory) where
 pub empty_main_traced : IsTraced empty_main (enter ∷ leave_in open_memory ∷ [])
 empty_main_traced = enter_and_leave open_memory open_fits
 
--- that a later step's memory has the variables of its activation isn't asked
+-- that a later step's memory has a frame for its activation isn't asked
 closed_before_return : IsTraced empty_main (enter ∷ leave_in closed_memory ∷ [])
 closed_before_return = enter_and_leave closed_memory closed_fits
 
@@ -111,7 +111,7 @@ not_of_a_run has = none_is_not_some own.0 own.1
     own : (r : Frame) × (None ≡ Some r)
     own = (has 1 (leave_in closed_memory) refl).own
 
--- an Enter in a memory without the new activation
+-- an Enter in a memory without a frame for the new activation, also where the function has no variables
 closed_at_enter : IsTraced empty_main (enter_in closed_memory ∷ []) → ⊥
 closed_at_enter traced = none_is_not_some held.0 held.1
   where

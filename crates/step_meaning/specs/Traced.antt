@@ -61,7 +61,8 @@ SlotTyped s = CellHasType s.declared s.cell
 abbrev pub BlocksTyped : List Block → Type 0
 BlocksTyped bs = All (All SlotTyped) bs
 
--- each memory has the core's variables of file scope; each cell holds nothing or a value of its declared type; an activation has one frame
+-- a memory has as many variables of file scope as the core; each cell holds nothing or a value of the type that the memory declares for it; an activation has one frame.
+-- It isn't asked that the cells of a variable are those of its type in the core
 pub record IsProgramMemory (q : Core) (memory : Memory) : Type 0 where
   pub globals : length memory.globals ≡ length q.globals
   pub globals_typed : BlocksTyped memory.globals
@@ -117,7 +118,7 @@ HoldArguments bs [] = Unit {0}
 HoldArguments [] (v ∷ vs) = ⊥
 HoldArguments (b ∷ bs) (v ∷ vs) = (map (λ s. s.cell) b ≡ (Holds v ∷ [])) × HoldArguments bs vs
 
--- the memory of an Enter has the new activation's variables, and holds the arguments in the parameters
+-- the memory of an Enter has a frame for the new activation, and holds the arguments in the parameters. Other locals aren't asked of the frame
 abbrev pub ParametersHold : Action → ℕ → Memory → Type 0
 ParametersHold (act.Enter g vs) a memory = (r : Frame) × (frame_of a memory.frames ≡ Some r) × HoldArguments r.locals vs
 ParametersHold _ a memory = Unit {0}
@@ -131,7 +132,7 @@ pub record IsStepOf (q : Core) (s : Step) : Type 0 where
   pub pointers : PointsOnlyIntoProgram s.action
   pub accesses : AccessesPointer s.action
   pub executed : (f : Function) × IsFunctionOf q s.function f × ActionHasTypes f s.action
-  -- of other steps than an Enter it isn't asked that the memory has the activation's variables
+  -- of other steps than an Enter it isn't asked that the memory has a frame for the activation
   pub parameters_hold : ParametersHold s.action s.activation s.memory
 
 abbrev pub At : List Step → ℕ → Step → Type 0

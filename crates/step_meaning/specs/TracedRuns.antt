@@ -16,7 +16,7 @@ cells_declared b = map (λ s. s.declared) b
 pub record HasVariables (q : Core) (s : Step) : Type 0 where
   -- the variables of file scope with the core's cells and types
   pub globals : map cells_declared s.memory.globals ≡ map (λ d. cells_declared (empty_block q.layouts d)) q.globals
-  -- the variables of the step's own activation, also after Enter
+  -- a frame for the step's own activation, also after Enter. What variables it has isn't said
   pub own : (r : Frame) × (frame_of s.activation s.memory.frames ≡ Some r)
 
 abbrev pub EachHasVariables : Core → List Step → Type 0

@@ -1,4 +1,4 @@
--- Rules on types (C11 6.2.5, 6.7.2.1, 6.7.6.1, 6.7.6.2), with the limit of 65,536 cells on an array and on a struct.
+-- Rules on types (C11 6.2.5, 6.7.2.1, 6.7.6.1, 6.7.6.2), with the limit of 65,536 cells on an array and on a struct; and the types of members and elements.
 -- A type is judged where the structs of `layouts` are complete, and those with numbers below `declared` may stand behind a pointer: in the definition of a struct, that struct besides.
 use Rattle.std.specs.Prelude.{ℕ, suc, ◌+◌, Bool, true, false, ◌&&◌, ◌==◌, nat_lt, nat_le, if◌then◌else◌, List, [], ◌∷◌, ◌++◌, length, sum_by, slice_get, Option, Some, None, option_and_then}
 use Rattle.std.specs.List.{list_all}

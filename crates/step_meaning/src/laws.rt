@@ -37,7 +37,8 @@ pub fn traced_sights_typed()
     ensures { TracedSightsTyped }
 {}
 
-/// The steps of a run of a well-formed program, on any input and for any bound, are a traced list.
+/// The steps of a run of a well-formed program, on any input and for any bound, are a traced list;
+/// the memory of each has a frame for the step's activation, and the program's cells of file scope.
 pub fn runs_are_traced()
     ensures { WellFormedTraced }
 {}
