@@ -5,14 +5,15 @@ use Rattle.step_meaning.specs.declared.value.CType.{CType}
 use Rattle.step_meaning.specs.declared.value.CType.TheVariants as type
 use Rattle.step_meaning.specs.declared.value.Value.{Value}
 use Rattle.step_meaning.specs.declared.value.Value.TheVariants as value
+use Rattle.step_meaning.specs.declared.value.Cell.TheVariants.{Holds}
 use Rattle.step_meaning.specs.declared.value.Action.{Action}
 use Rattle.step_meaning.specs.declared.value.Action.TheVariants as act
 use Rattle.step_meaning.specs.declared.program.Core.{Core}
 use Rattle.step_meaning.specs.declared.program.Function.{Function}
-use Rattle.step_meaning.specs.Memory.{Frame, empty_block}
+use Rattle.step_meaning.specs.Memory.{Frame, Block, empty_block}
 use Rattle.step_meaning.specs.Steps.{Step, Item, Made, Judged}
 use Rattle.step_meaning.specs.ExpressionTypes.{parameter_types}
-use Rattle.step_meaning.specs.Traced.{is_program_kind, HoldArguments}
+use Rattle.step_meaning.specs.Traced.{is_program_kind, contents}
 use Rattle.step_meaning.specs.TracedRuns.{cells_declared}
 use Rattle.step_meaning.proofs.TypedMemory.{Each, is_empty, InCell, BlockFits, FrameFits}
 
@@ -39,6 +40,12 @@ ReturnFits t None = ⊥
 ReturnFits t (Some v) = InCell t v
 
 -- ---- actions
+
+-- the first blocks hold the arguments, one each
+abbrev pub HoldArguments : List Block → List Value → Type 0
+HoldArguments bs [] = Unit {0}
+HoldArguments [] (v ∷ vs) = ⊥
+HoldArguments (b ∷ bs) (v ∷ vs) = (contents b ≡ (Holds v ∷ [])) × HoldArguments bs vs
 
 -- the innermost frame holds the arguments
 abbrev pub InnermostHolds : List Frame → List Value → Type 0

@@ -1,6 +1,6 @@
 -- The steps of a run of a well-formed program are traced: each step fits, and the steps nest as calls do.
-use Rattle.std.proofs.Common.{◌≡◌, ◌≢◌, ◌==◌, ℕ, suc, ◌<◌, Bool, true, false, cond, List, [], ◌∷◌, map, length, drop, Option, Some, None, All, refl, sym, ap, subst, ◌∙◌, ⊎_elim, ne_eqb, arith}
-use Rattle.std.specs.Prelude.{◌↔◌, slice_get, IsTrue, AllPairs}
+use Rattle.std.proofs.Common.{◌≡◌, ◌≢◌, ◌==◌, ℕ, zero, suc, ◌<◌, Bool, true, false, cond, List, [], ◌∷◌, map, length, drop, Option, Some, None, All, refl, sym, ap, subst, ◌∙◌, ⊎_elim, ne_eqb, arith}
+use Rattle.std.specs.Prelude.{◌↔◌, slice_get, option_and_then, option_map, IsTrue, AllPairs}
 use Rattle.std.proofs.lemmas.Bool.{eqb-true}
 use Rattle.std.proofs.lemmas.List.{length-map}
 use Rattle.std.proofs.lemmas.List.Elements.{All-nil, All-cons, All-from_recursion}
@@ -9,6 +9,7 @@ use Rattle.step_meaning.specs.declared.value.CType.{CType}
 use Rattle.step_meaning.specs.declared.value.CType.TheVariants as type
 use Rattle.step_meaning.specs.declared.value.Value.{Value}
 use Rattle.step_meaning.specs.declared.value.Value.TheVariants as value
+use Rattle.step_meaning.specs.declared.value.Cell.TheVariants.{Holds}
 use Rattle.step_meaning.specs.declared.value.Action.{Action}
 use Rattle.step_meaning.specs.declared.value.Action.TheVariants as act
 use Rattle.step_meaning.specs.declared.program.Core.{Core}
@@ -19,11 +20,12 @@ use Rattle.step_meaning.specs.State.{Here}
 use Rattle.step_meaning.specs.Runs.{run}
 use Rattle.step_meaning.specs.Limits.{is_enter}
 use Rattle.step_meaning.specs.ExpressionTypes.{parameter_types}
-use Rattle.step_meaning.specs.Traced.{PointsIntoProgram, IsPointer, HaveTypes, SlotTyped, BlocksTyped, NamesOwn, PointsOnlyIntoProgram, AccessesPointer, IsFunctionOf, ResultHasType, ActionHasTypes, HoldArguments, ParametersHold, IsStepOf, At, IsTraced}
+use Rattle.step_meaning.specs.Traced.{PointsIntoProgram, IsPointer, HaveTypes, SlotTyped, BlocksTyped, NamesOwn, PointsOnlyIntoProgram, AccessesPointer, IsFunctionOf, ResultHasType, ActionHasTypes, contents, ParametersHold, IsStepOf, At, IsTraced}
 use Rattle.step_meaning.specs.TracedRuns.{cells_declared, EachHasVariables, WellFormedTraced}
 use Rattle.step_meaning.proofs.Ranges.{false_is_not_true}
+use Rattle.step_meaning.proofs.ValuesInside.{none_is}
 use Rattle.step_meaning.proofs.TypedMemory.{Each, get_fits, is_empty, is_empty_map, drop_map, number_same, BlockFits, FrameFits}
-use Rattle.step_meaning.proofs.StepsFit.{IsAddress, InCells, InnermostHolds, ReturnFits, ActionFits, StepFits}
+use Rattle.step_meaning.proofs.StepsFit.{IsAddress, InCells, HoldArguments, InnermostHolds, ReturnFits, ActionFits, StepFits}
 use Rattle.step_meaning.proofs.TypedRuns.{some_fits, run_steps_fit}
 use Rattle.step_meaning.proofs.Nesting.{maker, numbers, frame_numbers, open_at, IsNext, Nest}
 use Rattle.step_meaning.proofs.NestingRuns.{run_nests}
@@ -199,8 +201,14 @@ own_frame (r ∷ rs) n ns e = (r, found (r.activation == n) (subst (λ m. (m == 
 own_variables : (q : Core) (s : Step) → IsPlaced q s → (r : Frame) × (frame_of s.activation s.memory.frames ≡ Some r)
 own_variables q s p = let o = own_frame s.memory.frames s.activation p.innermost.0 p.innermost.1 in (o.0, o.1)
 
+held_at : (bs : List Block) (vs : List Value) → HoldArguments bs vs → (i : ℕ) (v : Value) → slice_get vs i ≡ Some v → option_map contents (slice_get bs i) ≡ Some (Holds v ∷ [])
+held_at bs [] h i v e = none_is v e
+held_at [] (w ∷ vs) h i v e = absurd h
+held_at (b ∷ bs) (w ∷ vs) h zero v e = ap Some (h.0 ∙ ap (λ x. Holds x ∷ []) (same_some w v e))
+held_at (b ∷ bs) (w ∷ vs) h (suc i) v e = held_at bs vs h.1 i v e
+
 parameters_hold : (q : Core) (memory : Memory) (n : ℕ) (ns : List ℕ) (a : Action) → map (λ f. f.activation) memory.frames ≡ (n ∷ ns) → ActionFits q memory.frames a → ParametersHold a n memory
-parameters_hold q memory n ns (act.Enter g vs) e h = let o = own_frame memory.frames n ns e in (o.0, o.1, o.2 vs h.hold)
+parameters_hold q memory n ns (act.Enter g vs) e h = let o = own_frame memory.frames n ns e in λ i v f. ap (λ (r : Option Frame). option_map contents (option_and_then (λ f. slice_get f.locals i) r)) o.1 ∙ held_at o.0.locals vs (o.2 vs h.hold) i v f
 parameters_hold q memory n ns _ e h = tt
 
 -- ---- steps and runs
