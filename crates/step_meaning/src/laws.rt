@@ -4,6 +4,7 @@ ghost use Rattle.step_meaning.specs.FitsBounded.{FitsBounded, TracedSightsTyped}
 ghost use Rattle.step_meaning.specs.FoldPrefixes.{FoldsPrefixes};
 ghost use Rattle.step_meaning.specs.Limits.{OutcomeComputed};
 ghost use Rattle.step_meaning.specs.Runs.{FlowsAgree};
+ghost use Rattle.step_meaning.specs.TracedPrefixes.{TracedPrefixes};
 ghost use Rattle.step_meaning.specs.TracedRuns.{WellFormedTraced};
 
 /// Larger bounds give the same first steps of a run, with the verdicts before each.
@@ -46,4 +47,9 @@ pub fn runs_are_traced()
 /// The fold of the first steps of a traced list is the beginning of the fold of the list.
 pub fn folds_prefixes()
     ensures { FoldsPrefixes }
+{}
+
+/// The first steps of a traced list are traced.
+pub fn traced_prefixes()
+    ensures { TracedPrefixes }
 {}
