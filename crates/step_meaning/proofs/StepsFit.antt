@@ -10,11 +10,11 @@ use Rattle.step_meaning.specs.declared.value.Action.{Action}
 use Rattle.step_meaning.specs.declared.value.Action.TheVariants as act
 use Rattle.step_meaning.specs.declared.program.Core.{Core}
 use Rattle.step_meaning.specs.declared.program.Function.{Function}
-use Rattle.step_meaning.specs.Memory.{Frame, Block, empty_block}
+use Rattle.step_meaning.specs.Memory.{Frame, Block}
 use Rattle.step_meaning.specs.Steps.{Step, Item, Made, Judged}
 use Rattle.step_meaning.specs.ExpressionTypes.{parameter_types}
 use Rattle.step_meaning.specs.Traced.{is_program_kind, contents}
-use Rattle.step_meaning.specs.TracedRuns.{cells_declared}
+use Rattle.step_meaning.specs.TracedRuns.{cells_declared, cells_of_each}
 use Rattle.step_meaning.proofs.TypedMemory.{Each, is_empty, InCell, BlockFits, FrameFits}
 
 -- ---- values
@@ -76,7 +76,7 @@ ActionFits q frames _ = Unit {0}
 
 -- the types of the cells of the variables of file scope
 abbrev pub global_cells : Core → List (List CType)
-global_cells q = map (λ d. cells_declared (empty_block q.layouts d)) q.globals
+global_cells q = cells_of_each q.layouts q.globals
 
 pub record StepFits (q : Core) (s : Step) : Type 0 where
   pub globals_declared : map cells_declared s.memory.globals ≡ global_cells q

@@ -1,22 +1,24 @@
 -- The steps of a program are a traced list, and so is a list that no run makes. Lists that break a point of the definition aren't traced.
-use Rattle.std.proofs.Common.{◌≡◌, ◌≢◌, ℕ, zero, suc, ◌+◌, ◌≤◌, true, false, List, [], ◌∷◌, Option, Some, None, refl, sym, ap, subst, ◌∙◌, arith}
+use Rattle.std.proofs.Common.{◌≡◌, ◌≢◌, ℕ, zero, suc, ◌+◌, ◌≤◌, Bool, true, false, map, List, [], ◌∷◌, Option, Some, None, refl, sym, ap, subst, ◌∙◌, arith}
 use Rattle.std.specs.Prelude.{IsTrue, All, AllPairs, pos, option_map}
 use Rattle.std.proofs.lemmas.List.Elements.{All-nil, All-cons, All-from_recursion}
 use Rattle.std.proofs.lemmas.List.Kept.{AllPairs-cons}
 use Rattle.step_meaning.specs.declared.value.NameKind.TheVariants as names
+use Rattle.step_meaning.specs.declared.value.CType.{CType}
+use Rattle.step_meaning.specs.declared.value.CType.TheVariants as type
 use Rattle.step_meaning.specs.declared.value.Value.TheVariants as value
 use Rattle.step_meaning.specs.declared.value.Cell.{Cell}
 use Rattle.step_meaning.specs.declared.value.Cell.TheVariants.{Nothing, Holds}
 use Rattle.step_meaning.specs.declared.value.Action.TheVariants as act
 use Rattle.step_meaning.specs.declared.program.Core.{Core}
 use Rattle.step_meaning.specs.declared.program.Function.{Function}
-use Rattle.step_meaning.specs.Memory.{Memory, Frame, block}
+use Rattle.step_meaning.specs.Memory.{Memory, Frame, frame_of, block}
 use Rattle.step_meaning.specs.Steps.{Step, steps}
 use Rattle.step_meaning.specs.Runs.{run}
 use Rattle.step_meaning.specs.Limits.{is_enter}
 use Rattle.step_meaning.specs.Traced.{is_return, PointsIntoProgram, SlotTyped, BlocksTyped, IsProgramMemory, contents, ParametersHold, IsStepOf, IsTraced, At}
-use Rattle.step_meaning.specs.TracedRuns.{EachHasVariables}
-use Rattle.step_meaning.proofs.Examples.{empty_main, declared, function, program, int, lit, return}
+use Rattle.step_meaning.specs.TracedRuns.{cells_declared, cells_of_each, HasVariables, EachHasVariables}
+use Rattle.step_meaning.proofs.Examples.{empty_main, declared, function, program, int, lit, pointer_to, return}
 
 abbrev pub open_frame : Frame
 open_frame = record { activation = 0; locals = [] }
@@ -115,10 +117,7 @@ closed_before_return = enter_and_leave open_memory closed_memory open_fits close
 
 -- a run has no such steps
 not_of_a_run : EachHasVariables empty_main (enter ∷ leave_in closed_memory ∷ []) → ⊥
-not_of_a_run has = none_is_not_some own.0 own.1
-  where
-    own : (r : Frame) × (None ≡ Some r)
-    own = (has 1 (leave_in closed_memory) refl).own
+not_of_a_run has = let own = (has 1 (leave_in closed_memory) refl).own_frame in none_is_not_some own.1 own.3
 
 -- where a function has no parameters, its Enter needs no frame either: no variable lives in a memory with an empty frame
 closed_at_enter : IsTraced empty_main (enter_in closed_memory ∷ leave_in closed_memory ∷ [])
@@ -214,3 +213,39 @@ argument_lost traced = nothing_held (same_some (Nothing ∷ []) (seven ∷ []) (
   where
     nothing_held : (Nothing ∷ []) ≡ (seven ∷ []) → ⊥
     nothing_held e = cc
+
+-- ---- the variables of the own activation
+
+-- the frame of `ignore` has its parameter
+ignore_has : HasVariables with_parameter (ignore_enters (open_with seven))
+ignore_has = record { globals = refl; own_frame = (ignore, frame_with seven, refl, refl, refl) }
+
+-- what a run has besides, of the frame of this step of `ignore`
+frame_cells : (memory : Memory) (r : Frame) → frame_of 1 memory.frames ≡ Some r → HasVariables with_parameter (ignore_enters memory) → map cells_declared r.locals ≡ ((int ∷ []) ∷ [])
+frame_cells memory r e has =
+    ap (map cells_declared) (ap (λ (f : Frame). f.locals) (same_some r has.own_frame.1 (sym e ∙ has.own_frame.3)))
+    ∙ (has.own_frame.4 ∙ ap (λ (f : Function). cells_of_each [] f.locals) (sym (same_some ignore has.own_frame.0 has.own_frame.2)))
+
+-- a frame without the parameter
+parameter_missing : HasVariables with_parameter (ignore_enters (record { globals = []; frames = record { activation = 1; locals = [] } ∷ [] })) → ⊥
+parameter_missing has = no_cells (frame_cells (record { globals = []; frames = record { activation = 1; locals = [] } ∷ [] }) (record { activation = 1; locals = [] }) refl has)
+  where
+    no_cells : [] ≡ ((int ∷ []) ∷ []) → ⊥
+    no_cells e = cc
+
+abbrev frame_of_pointer : Frame
+frame_of_pointer = record { activation = 1; locals = (record { declared = pointer_to int; cell = Nothing } ∷ []) ∷ [] }
+
+-- a parameter of another type
+parameter_retyped : HasVariables with_parameter (ignore_enters (record { globals = []; frames = frame_of_pointer ∷ [] })) → ⊥
+parameter_retyped has = other_type (frame_cells (record { globals = []; frames = frame_of_pointer ∷ [] }) frame_of_pointer refl has)
+  where
+    other_type : ((pointer_to int ∷ []) ∷ []) ≡ ((int ∷ []) ∷ []) → ⊥
+    other_type e = pointer_is_not_int (ap first_is_int e)
+      where
+        first_is_int : List (List CType) → Bool
+        first_is_int ((type.Int k ∷ ts) ∷ tss) = true
+        first_is_int _ = false
+
+        pointer_is_not_int : false ≡ true → ⊥
+        pointer_is_not_int = true_is_not_false

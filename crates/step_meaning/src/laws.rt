@@ -39,7 +39,8 @@ pub fn traced_sights_typed()
 {}
 
 /// The steps of a run of a well-formed program, on any input and for any bound, are a traced list;
-/// the memory of each has a frame for the step's activation, and the program's cells of file scope.
+/// the memory of each has a frame for the step's activation with its function's variables, and the variables of file
+/// scope, with the cells and types that the program declares.
 pub fn runs_are_traced()
     ensures { WellFormedTraced }
 {}
