@@ -241,11 +241,8 @@ parameter_retyped : HasVariables with_parameter (ignore_enters (record { globals
 parameter_retyped has = other_type (frame_cells (record { globals = []; frames = frame_of_pointer ∷ [] }) frame_of_pointer refl has)
   where
     other_type : ((pointer_to int ∷ []) ∷ []) ≡ ((int ∷ []) ∷ []) → ⊥
-    other_type e = pointer_is_not_int (ap first_is_int e)
+    other_type e = true_is_not_false (ap first_is_int e)
       where
         first_is_int : List (List CType) → Bool
         first_is_int ((type.Int k ∷ ts) ∷ tss) = true
         first_is_int _ = false
-
-        pointer_is_not_int : false ≡ true → ⊥
-        pointer_is_not_int = true_is_not_false

@@ -13,7 +13,7 @@ use Rattle.step_meaning.specs.declared.program.Declared.{Declared}
 use Rattle.step_meaning.specs.declared.program.Function.{Function}
 use Rattle.step_meaning.specs.declared.program.Core.{Core}
 use Rattle.step_meaning.specs.Types.{same_type, object_cells}
-use Rattle.step_meaning.specs.Memory.{Slot, Block, empty_block, filled}
+use Rattle.step_meaning.specs.Memory.{Slot, empty_block, filled}
 use Rattle.step_meaning.specs.Steps.{Item, Made, Judged, End, Exit, Fault, More, Trace, Stop, Then, steps}
 use Rattle.step_meaning.specs.Flow.{direct, DirectCall, CallGives, Returned, Ended}
 use Rattle.step_meaning.specs.Calls as ca
