@@ -24,7 +24,7 @@ from_each P [] h = tt
 from_each P (x ∷ xs) h = (h zero x refl, from_each P xs (λ i y e. h (suc i) y e))
 
 -- an element of the first n is one of the list, with a number below n
-among_first : (ss : List Step) (n i : ℕ) (s : Step) → At (take n ss) i s → (i < n) × At ss i s
+pub among_first : (ss : List Step) (n i : ℕ) (s : Step) → At (take n ss) i s → (i < n) × At ss i s
 among_first ss zero i s e = none_is s e
 among_first [] (suc n) i s e = none_is s e
 among_first (x ∷ xs) (suc n) zero s e = (omega arith, e)

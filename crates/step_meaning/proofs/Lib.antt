@@ -40,5 +40,6 @@ mod NestingRuns
 mod NestingLists
 pub mod TracedRuns
 pub mod FoldPrefixes
+pub mod TracedPrefixes
 pub mod JudgedExamples
 pub mod AcceptedExamples

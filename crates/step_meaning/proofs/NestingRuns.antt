@@ -28,8 +28,9 @@ use Rattle.step_meaning.specs.declared.stmt.Stmt.TheVariants as st
 use Rattle.step_meaning.specs.declared.program.Core.{Core}
 use Rattle.step_meaning.specs.declared.program.Function.{Function}
 use Rattle.step_meaning.specs.declared.program.Layout.{Layout}
+use Rattle.step_meaning.specs.declared.program.Declared.{Declared}
 use Rattle.step_meaning.specs.Names.{truth, of_truth, integer, moved}
-use Rattle.step_meaning.specs.Memory.{Memory, Frame, Block, room_at, reached, set_cell, at_block, at_frame, changed, stored}
+use Rattle.step_meaning.specs.Memory.{Memory, empty_block, room_at, reached, set_cell, at_block, changed, stored}
 use Rattle.step_meaning.specs.Numbers.{low_bits}
 use Rattle.step_meaning.specs.Steps.{Step, End, Fault, More, Trace, Stop, steps}
 use Rattle.step_meaning.specs.State.{State, Registers, Here, unset_registers, Lvalue, InRegister, At, register_at, set_register, designated}
@@ -40,46 +41,46 @@ use Rattle.step_meaning.specs.Expressions as ex
 use Rattle.step_meaning.specs.Statements as sm
 use Rattle.step_meaning.specs.Statements.{Completion, Next, Broken, Continued, Returned}
 use Rattle.step_meaning.specs.Calls as ca
-use Rattle.step_meaning.specs.Calls.{annotations, after_annotations, first_frame, with_frame, without_frame, value_or_zero}
+use Rattle.step_meaning.specs.Calls.{annotations, after_annotations, with_arguments, first_frame, with_frame, without_frame, value_or_zero}
 use Rattle.step_meaning.specs.Runs.{run, start_state, exit_of}
 use Rattle.step_meaning.specs.Ghosts.{ghosts_after}
 use Rattle.step_meaning.specs.ExpressionTypes.{has_body}
 use Rattle.step_meaning.specs.Traced.{IsFunctionOf}
 use Rattle.step_meaning.proofs.Ranges.{false_is_not_true}
-use Rattle.step_meaning.proofs.TypedMemory.{drop_map}
-use Rattle.step_meaning.proofs.Nesting.{numbers, frame_numbers, Nest}
+use Rattle.step_meaning.specs.TracedRuns.{cells_declared, cells_of_each}
+use Rattle.step_meaning.proofs.TypedMemory.{drop_map, filled_declared, shape_of, frames_shaped}
+use Rattle.step_meaning.proofs.Nesting.{local_cells, shapes, frame_shapes, Nest}
 
--- ---- changes of a memory keep its frames
+-- ---- changes of a memory keep the shapes of its frames
 
-at_frame_numbers : (f : List Block → List Block) (a : ℕ) (rs : List Frame) → map (λ r. r.activation) (at_frame f a rs) ≡ map (λ r. r.activation) rs
-at_frame_numbers f a [] = refl
-at_frame_numbers f a (r ∷ rs) = by (r.activation == a) (at_frame_numbers f a rs)
-  where
-    by : (b : Bool) → map (λ r. r.activation) (at_frame f a rs) ≡ map (λ r. r.activation) rs → map (λ r. r.activation) (cond b (record r { locals = f r.locals } ∷ rs) (r ∷ at_frame f a rs)) ≡ (r.activation ∷ map (λ r. r.activation) rs)
-    by true rest = refl
-    by false rest = ap (λ ns. r.activation ∷ ns) rest
+changed_shapes : (memory : Memory) (k : NameKind) (a : ℕ) (c : Cell) (o i : ℕ) → frame_shapes (changed memory k a (at_block (set_cell c o) i)) ≡ frame_shapes memory
+changed_shapes memory names.Global a c o i = refl
+changed_shapes memory names.Local a c o i = frames_shaped c o i a memory.frames
+changed_shapes memory names.Register a c o i = refl
+changed_shapes memory names.GhostGlobal a c o i = refl
+changed_shapes memory names.GhostLocal a c o i = refl
 
-changed_numbers : (memory : Memory) (k : NameKind) (a : ℕ) (f : List Block → List Block) → frame_numbers (changed memory k a f) ≡ frame_numbers memory
-changed_numbers memory names.Global a f = refl
-changed_numbers memory names.Local a f = at_frame_numbers f a memory.frames
-changed_numbers memory names.Register a f = refl
-changed_numbers memory names.GhostGlobal a f = refl
-changed_numbers memory names.GhostLocal a f = refl
+stored_shapes : (memory : Memory) (p : Value) (c : Cell) → frame_shapes (stored memory p c) ≡ frame_shapes memory
+stored_shapes memory (value.Pointer n o) c = changed_shapes memory n.kind n.activation c o n.index
+stored_shapes memory value.Null c = refl
+stored_shapes memory (value.Int z) c = refl
 
-stored_numbers : (memory : Memory) (p : Value) (c : Cell) → frame_numbers (stored memory p c) ≡ frame_numbers memory
-stored_numbers memory (value.Pointer n o) c = changed_numbers memory n.kind n.activation (at_block (set_cell c o) n.index)
-stored_numbers memory value.Null c = refl
-stored_numbers memory (value.Int z) c = refl
+-- arguments change no shape
+started_cells : (layouts : List Layout) (ds : List Declared) (vs : List Value) → map cells_declared (with_arguments (map (empty_block layouts) ds) vs) ≡ cells_of_each layouts ds
+started_cells layouts [] [] = refl
+started_cells layouts [] (v ∷ vs) = refl
+started_cells layouts (d ∷ ds) [] = ap (λ ts. cells_declared (empty_block layouts d) ∷ ts) (started_cells layouts ds [])
+started_cells layouts (d ∷ ds) (v ∷ vs) = ap (λ ts. ts ∷ map cells_declared (with_arguments (map (empty_block layouts) ds) vs)) (filled_declared (empty_block layouts d) (v ∷ [])) ∙ ap (λ ts. cells_declared (empty_block layouts d) ∷ ts) (started_cells layouts ds vs)
 
 -- ---- parts of a run
 
 -- the frames are those of these activations
-abbrev pub Opens : List Here → State → Type 0
-Opens hs s = frame_numbers s.memory ≡ numbers hs
+abbrev pub Opens : Core → List Here → State → Type 0
+Opens q hs s = frame_shapes s.memory ≡ shapes q hs
 
 -- a call, where these activations are open. Where none is, it is the first
 pub record CallNests (q : Core) (hs : List Here) (d : RestingCall) : Type 0 where
-  pub by : (rest : Value → State → Trace) → ((v : Value) (s : State) → Opens hs s → Nest q hs s.made (steps (rest v s))) → (s : State) → Opens hs s → (hs ≡ [] → s.made ≡ 0) → Nest q hs s.made (steps (d rest s))
+  pub by : (rest : Value → State → Trace) → ((v : Value) (s : State) → Opens q hs s → Nest q hs s.made (steps (rest v s))) → (s : State) → Opens q hs s → (hs ≡ [] → s.made ≡ 0) → Nest q hs s.made (steps (d rest s))
 
 -- a step that neither opens nor closes an activation
 abbrev pub IsInner : Action → Type 0
@@ -90,9 +91,9 @@ IsInner _ = Unit {0}
 module _ (q : Core) (here : Here) (outer : List Here) (is : (f : Function) × IsFunctionOf q here.function f) where
   -- a part of this activation
   pub record Nests {A : Type 0} (d : Resting A) : Type 0 where
-    pub by : (rest : A → State → Registers → Trace) → ((a : A) (s : State) (r : Registers) → Opens (here ∷ outer) s → Nest q (here ∷ outer) s.made (steps (rest a s r))) → (s : State) (r : Registers) → Opens (here ∷ outer) s → Nest q (here ∷ outer) s.made (steps (d rest s r))
+    pub by : (rest : A → State → Registers → Trace) → ((a : A) (s : State) (r : Registers) → Opens q (here ∷ outer) s → Nest q (here ∷ outer) s.made (steps (rest a s r))) → (s : State) (r : Registers) → Opens q (here ∷ outer) s → Nest q (here ∷ outer) s.made (steps (d rest s r))
 
-  inner_step : (a : Action) → IsInner a → (s : State) (ss : List Step) → Opens (here ∷ outer) s → Nest q (here ∷ outer) s.made ss → Nest q (here ∷ outer) s.made (record { action = a; function = here.function; activation = here.activation; memory = s.memory } ∷ ss)
+  inner_step : (a : Action) → IsInner a → (s : State) (ss : List Step) → Opens q (here ∷ outer) s → Nest q (here ∷ outer) s.made ss → Nest q (here ∷ outer) s.made (record { action = a; function = here.function; activation = here.activation; memory = s.memory } ∷ ss)
   inner_step (act.Enter g vs) i s ss m h = absurd i
   inner_step (act.Return g v) i s ss m h = absurd i
   inner_step _ i s ss m h = (record { function = is; names_own = tt; frames = m; innermost = (outer, refl); is_new = λ e. absurd (false_is_not_true e) }, h)
@@ -168,7 +169,7 @@ module _ (q : Core) (here : Here) (outer : List Here) (is : (f : Function) × Is
 
   nest_write_at : (p v : Value) (c : Option Cell) → Nests (acc.write_at resting here p v c)
   nest_write_at p v None = nest_halt fault.Invalid
-  nest_write_at p v (Some c) = record { by = λ rest h s r m. h v (record s { memory = stored s.memory p (Holds v) }) r (stored_numbers s.memory p (Holds v) ∙ m) }
+  nest_write_at p v (Some c) = record { by = λ rest h s r m. h v (record s { memory = stored s.memory p (Holds v) }) r (stored_shapes s.memory p (Holds v) ∙ m) }
 
   nest_write_register : (i : ℕ) (v : Value) (c : Option Cell) → Nests (acc.write_register resting here i v c)
   nest_write_register i v None = nest_misuse fault.Invalid
@@ -348,8 +349,8 @@ module _ (q : Core) (hs : List Here) (n : ℕ) (here : Here) (call : ℕ → Lis
   after_leading (st.Assert v k p ∷ ss) s r e m = after_leading ss s r e m
   after_leading _ s r e m = h s r e m
 
-dropped : (memory : Memory) (h : Here) (hs : List Here) → frame_numbers memory ≡ numbers (h ∷ hs) → frame_numbers (without_frame memory) ≡ numbers hs
-dropped memory h hs e = drop_map (λ f. f.activation) memory.frames ∙ ap (λ ns. drop 1 ns) e
+dropped : (q : Core) (memory : Memory) (h : Here) (hs : List Here) → frame_shapes memory ≡ shapes q (h ∷ hs) → frame_shapes (without_frame memory) ≡ shapes q hs
+dropped q memory h hs e = drop_map shape_of memory.frames ∙ ap (λ ss. drop 1 ss) e
 
 module _ (q : Core) (bound : ℕ) where
   -- calls by this
@@ -359,7 +360,7 @@ module _ (q : Core) (bound : ℕ) where
   nest_activation : (call : ℕ → List Value → RestingCall) → AllNest call → (hs : List Here) (g : ℕ) (f : Function) → slice_get q.functions g ≡ Some f → IsTrue (has_body f) → (body : List Stmt) (vs : List Value) → CallNests q hs (resting.alone (unset_registers f.registers) (ca.activation resting q bound call g f body vs))
   nest_activation call calls hs g f found has body vs = record { by = opened }
     where
-      opened : (rest : Value → State → Trace) → ((v : Value) (s : State) → Opens hs s → Nest q hs s.made (steps (rest v s))) → (s : State) → Opens hs s → (hs ≡ [] → s.made ≡ 0) → Nest q hs s.made (steps (resting.alone (unset_registers f.registers) (ca.activation resting q bound call g f body vs) rest s))
+      opened : (rest : Value → State → Trace) → ((v : Value) (s : State) → Opens q hs s → Nest q hs s.made (steps (rest v s))) → (s : State) → Opens q hs s → (hs ≡ [] → s.made ≡ 0) → Nest q hs s.made (steps (resting.alone (unset_registers f.registers) (ca.activation resting q bound call g f body vs) rest s))
       opened rest h s m first = after_leading q hs s.made here call bound begun (suc s.made) entering entered body _ (unset_registers f.registers) refl refl
         where
           here : Here
@@ -383,17 +384,20 @@ module _ (q : Core) (bound : ℕ) where
           is : (f : Function) × IsFunctionOf q g f
           is = (f, (found, has))
 
-          left : (v : Option Value) (s : State) (r : Registers) → Opens (here ∷ hs) s → Nest q (here ∷ hs) s.made (steps (leaving v s r))
-          left v s r m = (record { function = is; names_own = refl; frames = m; innermost = (hs, refl); is_new = λ e. absurd (false_is_not_true e) }, h (value_or_zero v) (record s { memory = without_frame s.memory; ghosts = without_frame s.ghosts }) (dropped s.memory here hs m))
+          left : (v : Option Value) (s : State) (r : Registers) → Opens q (here ∷ hs) s → Nest q (here ∷ hs) s.made (steps (leaving v s r))
+          left v s r m = (record { function = is; names_own = refl; frames = m; innermost = (hs, refl); is_new = λ e. absurd (false_is_not_true e) }, h (value_or_zero v) (record s { memory = without_frame s.memory; ghosts = without_frame s.ghosts }) (dropped q s.memory here hs m))
 
-          inside : (s : State) (r : Registers) → Opens (here ∷ hs) s → Nest q (here ∷ hs) s.made (steps (sm.exec_all resting q.layouts call here bound (after_annotations body) (λ c. ca.given_back resting here (g == q.start) f.result c leaving) s r))
+          inside : (s : State) (r : Registers) → Opens q (here ∷ hs) s → Nest q (here ∷ hs) s.made (steps (sm.exec_all resting q.layouts call here bound (after_annotations body) (λ c. ca.given_back resting here (g == q.start) f.result c leaving) s r))
           inside s r m = (nest_exec_all q here hs is q.layouts call (calls here hs) bound (after_annotations body)).by (λ c. ca.given_back resting here (g == q.start) f.result c leaving) (λ c s r m. (nest_given q here hs is (g == q.start) f.result c).by leaving left s r m) s r m
 
           entered : (t : State) (r : Registers) → t.memory ≡ begun → t.made ≡ suc s.made → Nest q hs s.made (steps (entering Next t r))
           entered t r e n = (record { function = is; names_own = refl; frames = opens; innermost = (hs, refl); is_new = λ e. (refl, first) }, subst (λ n. Nest q (here ∷ hs) n (steps (sm.exec_all resting q.layouts call here bound (after_annotations body) (λ c. ca.given_back resting here (g == q.start) f.result c leaving) t r))) n (inside t r opens))
             where
-              opens : frame_numbers t.memory ≡ numbers (here ∷ hs)
-              opens = ap (λ x. frame_numbers x) e ∙ ap (λ ns. s.made ∷ ns) m
+              own : map cells_declared (with_arguments (map (empty_block q.layouts) f.locals) vs) ≡ local_cells q (slice_get q.functions g)
+              own = started_cells q.layouts f.locals vs ∙ sym (ap (λ o. local_cells q o) found)
+
+              opens : frame_shapes t.memory ≡ shapes q (here ∷ hs)
+              opens = ap (λ x. frame_shapes x) e ∙ (ap (λ ss. shape_of (first_frame q.layouts f s.made vs) ∷ ss) m ∙ ap (λ (ts : List (List CType)). record { activation = s.made; cells = ts } ∷ shapes q hs) own)
 
   nest_body : (call : ℕ → List Value → RestingCall) → AllNest call → (hs : List Here) (g : ℕ) (f : Function) → slice_get q.functions g ≡ Some f → (body : Option (List Stmt)) → f.body ≡ body → (vs : List Value) → CallNests q hs (ca.call_body resting q bound call g f body vs)
   nest_body call calls hs g f found None e vs = record { by = λ rest h s m first. tt }

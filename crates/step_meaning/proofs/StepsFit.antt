@@ -5,15 +5,16 @@ use Rattle.step_meaning.specs.declared.value.CType.{CType}
 use Rattle.step_meaning.specs.declared.value.CType.TheVariants as type
 use Rattle.step_meaning.specs.declared.value.Value.{Value}
 use Rattle.step_meaning.specs.declared.value.Value.TheVariants as value
+use Rattle.step_meaning.specs.declared.value.Cell.TheVariants.{Holds}
 use Rattle.step_meaning.specs.declared.value.Action.{Action}
 use Rattle.step_meaning.specs.declared.value.Action.TheVariants as act
 use Rattle.step_meaning.specs.declared.program.Core.{Core}
 use Rattle.step_meaning.specs.declared.program.Function.{Function}
-use Rattle.step_meaning.specs.Memory.{Frame, empty_block}
+use Rattle.step_meaning.specs.Memory.{Frame, Block}
 use Rattle.step_meaning.specs.Steps.{Step, Item, Made, Judged}
 use Rattle.step_meaning.specs.ExpressionTypes.{parameter_types}
-use Rattle.step_meaning.specs.Traced.{is_program_kind, HoldArguments}
-use Rattle.step_meaning.specs.TracedRuns.{cells_declared}
+use Rattle.step_meaning.specs.Traced.{is_program_kind, contents}
+use Rattle.step_meaning.specs.TracedRuns.{cells_declared, cells_of_each}
 use Rattle.step_meaning.proofs.TypedMemory.{Each, is_empty, InCell, BlockFits, FrameFits}
 
 -- ---- values
@@ -39,6 +40,12 @@ ReturnFits t None = ⊥
 ReturnFits t (Some v) = InCell t v
 
 -- ---- actions
+
+-- the first blocks hold the arguments, one each
+abbrev pub HoldArguments : List Block → List Value → Type 0
+HoldArguments bs [] = Unit {0}
+HoldArguments [] (v ∷ vs) = ⊥
+HoldArguments (b ∷ bs) (v ∷ vs) = (contents b ≡ (Holds v ∷ [])) × HoldArguments bs vs
 
 -- the innermost frame holds the arguments
 abbrev pub InnermostHolds : List Frame → List Value → Type 0
@@ -69,7 +76,7 @@ ActionFits q frames _ = Unit {0}
 
 -- the types of the cells of the variables of file scope
 abbrev pub global_cells : Core → List (List CType)
-global_cells q = map (λ d. cells_declared (empty_block q.layouts d)) q.globals
+global_cells q = cells_of_each q.layouts q.globals
 
 pub record StepFits (q : Core) (s : Step) : Type 0 where
   pub globals_declared : map cells_declared s.memory.globals ≡ global_cells q

@@ -1,6 +1,6 @@
 -- The steps of a run of a well-formed program are traced: each step fits, and the steps nest as calls do.
-use Rattle.std.proofs.Common.{◌≡◌, ◌≢◌, ◌==◌, ℕ, suc, ◌<◌, Bool, true, false, cond, List, [], ◌∷◌, map, length, drop, Option, Some, None, All, refl, sym, ap, subst, ◌∙◌, ⊎_elim, ne_eqb, arith}
-use Rattle.std.specs.Prelude.{◌↔◌, slice_get, IsTrue, AllPairs}
+use Rattle.std.proofs.Common.{◌≡◌, ◌≢◌, ◌==◌, ℕ, zero, suc, ◌<◌, Bool, true, false, cond, List, [], ◌∷◌, map, length, drop, Option, Some, None, All, refl, sym, ap, subst, ◌∙◌, ⊎_elim, ne_eqb, arith}
+use Rattle.std.specs.Prelude.{◌↔◌, slice_get, option_and_then, option_map, IsTrue, AllPairs}
 use Rattle.std.proofs.lemmas.Bool.{eqb-true}
 use Rattle.std.proofs.lemmas.List.{length-map}
 use Rattle.std.proofs.lemmas.List.Elements.{All-nil, All-cons, All-from_recursion}
@@ -9,6 +9,7 @@ use Rattle.step_meaning.specs.declared.value.CType.{CType}
 use Rattle.step_meaning.specs.declared.value.CType.TheVariants as type
 use Rattle.step_meaning.specs.declared.value.Value.{Value}
 use Rattle.step_meaning.specs.declared.value.Value.TheVariants as value
+use Rattle.step_meaning.specs.declared.value.Cell.TheVariants.{Holds}
 use Rattle.step_meaning.specs.declared.value.Action.{Action}
 use Rattle.step_meaning.specs.declared.value.Action.TheVariants as act
 use Rattle.step_meaning.specs.declared.program.Core.{Core}
@@ -19,13 +20,14 @@ use Rattle.step_meaning.specs.State.{Here}
 use Rattle.step_meaning.specs.Runs.{run}
 use Rattle.step_meaning.specs.Limits.{is_enter}
 use Rattle.step_meaning.specs.ExpressionTypes.{parameter_types}
-use Rattle.step_meaning.specs.Traced.{PointsIntoProgram, IsPointer, HaveTypes, SlotTyped, BlocksTyped, NamesOwn, PointsOnlyIntoProgram, AccessesPointer, IsFunctionOf, ResultHasType, ActionHasTypes, HoldArguments, ParametersHold, IsStepOf, At, IsTraced}
-use Rattle.step_meaning.specs.TracedRuns.{cells_declared, EachHasVariables, WellFormedTraced}
+use Rattle.step_meaning.specs.Traced.{PointsIntoProgram, IsPointer, HaveTypes, SlotTyped, BlocksTyped, NamesOwn, PointsOnlyIntoProgram, AccessesPointer, IsFunctionOf, ResultHasType, ActionHasTypes, contents, ParametersHold, IsStepOf, At, IsTraced}
+use Rattle.step_meaning.specs.TracedRuns.{cells_declared, cells_of_each, EachHasVariables, WellFormedTraced}
 use Rattle.step_meaning.proofs.Ranges.{false_is_not_true}
-use Rattle.step_meaning.proofs.TypedMemory.{Each, get_fits, is_empty, is_empty_map, drop_map, number_same, BlockFits, FrameFits}
-use Rattle.step_meaning.proofs.StepsFit.{IsAddress, InCells, InnermostHolds, ReturnFits, ActionFits, StepFits}
+use Rattle.step_meaning.proofs.ValuesInside.{none_is}
+use Rattle.step_meaning.proofs.TypedMemory.{Each, get_fits, is_empty, is_empty_map, drop_map, number_same, BlockFits, Shape, shape_of, FrameFits}
+use Rattle.step_meaning.proofs.StepsFit.{IsAddress, InCells, HoldArguments, InnermostHolds, ReturnFits, ActionFits, StepFits}
 use Rattle.step_meaning.proofs.TypedRuns.{some_fits, run_steps_fit}
-use Rattle.step_meaning.proofs.Nesting.{maker, numbers, frame_numbers, open_at, IsNext, Nest}
+use Rattle.step_meaning.proofs.Nesting.{maker, numbers, frame_numbers, local_cells, shape_for, shapes, frame_shapes, numbers_of_shapes, open_at, IsNext, Nest}
 use Rattle.step_meaning.proofs.NestingRuns.{run_nests}
 use Rattle.step_meaning.proofs.NestingLists.{same_some, Falls, falls_more, Descends, by_sort, descends_in, descends_out, nested_known, first_number}
 
@@ -55,7 +57,7 @@ record IsPlaced (q : Core) (s : Step) : Type 0 where
   function : (f : Function) × IsFunctionOf q s.function f
   names_own : NamesOwn s.action s.function
   falling : (n : ℕ) × Falls (frame_numbers s.memory) n
-  innermost : (ns : List ℕ) × (frame_numbers s.memory ≡ (s.activation ∷ ns))
+  innermost : (outer : List Shape) × (frame_shapes s.memory ≡ (shape_for q (maker s) ∷ outer))
 
 falls_at : (a : Action) (h : Here) (hs : List Here) (n : ℕ) → (IsTrue (is_enter a) → h.activation ≡ n) → Descends hs n → Descends (open_at a h hs) (suc n)
 falls_at (act.Enter g vs) h hs n e d = descends_in hs n h (e refl) d
@@ -65,8 +67,8 @@ placed : (q : Core) (hs : List Here) (n : ℕ) (s : Step) → Descends hs n → 
 placed q hs n s d h = record {
   function = h.function;
   names_own = h.names_own;
-  falling = (suc n, subst (λ ns. Falls ns (suc n)) (sym h.frames) (falls_at s.action (maker s) hs n (λ e. (h.is_new e).0) d));
-  innermost = (numbers h.innermost.0, h.frames ∙ ap numbers h.innermost.1);
+  falling = (suc n, subst (λ ns. Falls ns (suc n)) (sym (numbers_of_shapes q s.memory.frames (open_at s.action (maker s) hs) h.frames)) (falls_at s.action (maker s) hs n (λ e. (h.is_new e).0) d));
+  innermost = (shapes q h.innermost.0, h.frames ∙ ap (λ hs. shapes q hs) h.innermost.1);
 }
 
 all_placed : (q : Core) (hs : List Here) (n : ℕ) (ss : List Step) → Descends hs n → Nest q hs n ss → Each (IsPlaced q) ss
@@ -107,7 +109,7 @@ all_main q hs n (s ∷ ss) d m h k =
     d m h.0 h.1
   where
     enters_own : IsTrue (is_enter s.action) → s.activation ≡ n → (hs ≡ [] → n ≡ 0) → Descends hs n → IsNext q hs n s → IsMain q (maker s)
-    enters_own enter number first d next = enters_main q (maker s) hs s.memory.frames s.action enter k.0.action next.names_own next.frames ∙ (none_made hs n d first ∙ ap (λ n. n == 0) (sym number))
+    enters_own enter number first d next = enters_main q (maker s) hs s.memory.frames s.action enter k.0.action next.names_own (numbers_of_shapes q s.memory.frames (open_at s.action (maker s) hs) next.frames) ∙ (none_made hs n d first ∙ ap (λ n. n == 0) (sym number))
 
 alone : (q : Core) (s : Step) → IsMain q (maker s) → (s.activation ≡ 0) ↔ (s.function ≡ q.start)
 alone q s h = (λ e. eqb-true s.function q.start (h ∙ (ap (λ n. n == 0) e ∙ number_same 0)), λ e. eqb-true s.activation 0 (sym h ∙ (ap (λ g. g == q.start) e ∙ number_same q.start)))
@@ -178,30 +180,36 @@ has_types q frames g f found _ o h = tt
 -- ---- the own frame
 
 -- the innermost frame is that of the activation with the first number
-own_frame : (fs : List Frame) (n : ℕ) (ns : List ℕ) → map (λ f. f.activation) fs ≡ (n ∷ ns) → (r : Frame) × (frame_of n fs ≡ Some r) × ((vs : List Value) → InnermostHolds fs vs → HoldArguments r.locals vs)
-own_frame [] n ns e = absurd (no e)
+own_frame : (fs : List Frame) (s : Shape) (ss : List Shape) → map shape_of fs ≡ (s ∷ ss) → (r : Frame) × (frame_of s.activation fs ≡ Some r) × (map cells_declared r.locals ≡ s.cells) × ((vs : List Value) → InnermostHolds fs vs → HoldArguments r.locals vs)
+own_frame [] s ss e = absurd (no e)
   where
-    no : [] ≡ (n ∷ ns) → ⊥
+    no : [] ≡ (s ∷ ss) → ⊥
     no e = cc
-own_frame (r ∷ rs) n ns e = (r, found (r.activation == n) (subst (λ m. (m == n) ≡ true) (sym same) (number_same n)), λ vs h. h)
+own_frame (r ∷ rs) s ss e = (r, found (r.activation == s.activation) (subst (λ n. (n == s.activation) ≡ true) (sym (ap (λ (x : Shape). x.activation) same)) (number_same s.activation)), ap (λ (x : Shape). x.cells) same, λ vs h. h)
   where
-    head : List ℕ → ℕ
-    head [] = n
-    head (m ∷ ms) = m
+    head : List Shape → Shape
+    head [] = s
+    head (x ∷ xs) = x
 
-    same : r.activation ≡ n
+    same : shape_of r ≡ s
     same = ap head e
 
-    found : (b : Bool) → b ≡ true → cond b (Some r) (frame_of n rs) ≡ Some r
+    found : (b : Bool) → b ≡ true → cond b (Some r) (frame_of s.activation rs) ≡ Some r
     found true e = refl
     found false e = false_is_not_true e
 
-own_variables : (q : Core) (s : Step) → IsPlaced q s → (r : Frame) × (frame_of s.activation s.memory.frames ≡ Some r)
-own_variables q s p = let o = own_frame s.memory.frames s.activation p.innermost.0 p.innermost.1 in (o.0, o.1)
+own_variables : (q : Core) (s : Step) → IsPlaced q s → (f : Function) × (r : Frame) × (slice_get q.functions s.function ≡ Some f) × (frame_of s.activation s.memory.frames ≡ Some r) × (map cells_declared r.locals ≡ cells_of_each q.layouts f.locals)
+own_variables q s p = let o = own_frame s.memory.frames (shape_for q (maker s)) p.innermost.0 p.innermost.1 in (p.function.0, o.0, p.function.1.0, o.1, o.2 ∙ ap (λ (f : Option Function). local_cells q f) p.function.1.0)
 
-parameters_hold : (q : Core) (memory : Memory) (n : ℕ) (ns : List ℕ) (a : Action) → map (λ f. f.activation) memory.frames ≡ (n ∷ ns) → ActionFits q memory.frames a → ParametersHold a n memory
-parameters_hold q memory n ns (act.Enter g vs) e h = let o = own_frame memory.frames n ns e in (o.0, o.1, o.2 vs h.hold)
-parameters_hold q memory n ns _ e h = tt
+held_at : (bs : List Block) (vs : List Value) → HoldArguments bs vs → (i : ℕ) (v : Value) → slice_get vs i ≡ Some v → option_map contents (slice_get bs i) ≡ Some (Holds v ∷ [])
+held_at bs [] h i v e = none_is v e
+held_at [] (w ∷ vs) h i v e = absurd h
+held_at (b ∷ bs) (w ∷ vs) h zero v e = ap Some (h.0 ∙ ap (λ x. Holds x ∷ []) (same_some w v e))
+held_at (b ∷ bs) (w ∷ vs) h (suc i) v e = held_at bs vs h.1 i v e
+
+parameters_hold : (q : Core) (memory : Memory) (s : Shape) (ss : List Shape) (a : Action) → map shape_of memory.frames ≡ (s ∷ ss) → ActionFits q memory.frames a → ParametersHold a s.activation memory
+parameters_hold q memory s ss (act.Enter g vs) e h = let o = own_frame memory.frames s ss e in λ i v f. ap (λ (r : Option Frame). option_map contents (option_and_then (λ f. slice_get f.locals i) r)) o.1 ∙ held_at o.0.locals vs (o.3 vs h.hold) i v f
+parameters_hold q memory s ss _ e h = tt
 
 -- ---- steps and runs
 
@@ -215,7 +223,7 @@ step_of q s h p = record {
   pointers = points_inside q s.memory.frames s.action h.action;
   accesses = accesses_pointer q s.memory.frames s.action h.action;
   executed = (p.function.0, p.function.1, has_types q s.memory.frames s.function p.function.0 p.function.1.0 s.action p.names_own h.action);
-  parameters_hold = parameters_hold q s.memory s.activation p.innermost.0 s.action p.innermost.1 h.action;
+  parameters_hold = parameters_hold q s.memory (shape_for q (maker s)) p.innermost.0 s.action p.innermost.1 h.action;
 }
 
 element : (P : Step → Type 0) (ss : List Step) → Each P ss → (i : ℕ) (s : Step) → At ss i s → P s
@@ -227,7 +235,7 @@ well_formed_traced q h input k = (by (steps (run q input k)) (run_steps_fit q h 
     variables : (ss : List Step) → Each (StepFits q) ss → Nest q [] 0 ss → EachHasVariables q ss
     variables ss fits nest i s e = record {
       globals = (element (StepFits q) ss fits i s e).globals_declared;
-      own = own_variables q s (element (IsPlaced q) ss (all_placed q [] 0 ss tt nest) i s e);
+      own_frame = own_variables q s (element (IsPlaced q) ss (all_placed q [] 0 ss tt nest) i s e);
     }
 
     by : (ss : List Step) → Each (StepFits q) ss → Nest q [] 0 ss → IsTraced q ss

@@ -29,10 +29,10 @@ use Rattle.step_meaning.specs.TypeRules.{is_scalar, is_scalar_type, keeps_rules}
 use Rattle.step_meaning.specs.ExpressionTypes.{parameter_types, called}
 use Rattle.step_meaning.specs.StatementRules.{BodyFits}
 use Rattle.step_meaning.specs.WellFormed.{IsWellFormedFunction}
-use Rattle.step_meaning.specs.Traced.{SlotTyped, HoldArguments}
+use Rattle.step_meaning.specs.Traced.{SlotTyped}
 use Rattle.step_meaning.proofs.Ranges.{false_is_not_true, left_of_and, right_of_and}
 use Rattle.step_meaning.proofs.TypedMemory.{Each, WhereSome, is_empty, is_empty_map, drop_map, InCell, BlockFits, FrameFits, Shape, shape_of, MemoryFits}
-use Rattle.step_meaning.proofs.StepsFit.{InCells, ReturnFits, EnterFits, global_cells}
+use Rattle.step_meaning.proofs.StepsFit.{InCells, ReturnFits, HoldArguments, EnterFits, global_cells}
 use Rattle.step_meaning.proofs.TypedOperators.{OfType}
 use Rattle.step_meaning.proofs.TypedStatements.{CompletionFits, keeps_exec_all}
 use Rattle.step_meaning.proofs.Kept.{RegistersFit, Fits, CallGivesFit, CallKeeps, GivesFit, Keeps, step_fits, keeps_pure, keeps_halt, keeps_emit}

@@ -16,7 +16,7 @@ use Rattle.step_meaning.specs.declared.value.Value.TheVariants as value
 use Rattle.step_meaning.specs.declared.value.Cell.{Cell}
 use Rattle.step_meaning.specs.declared.value.Cell.TheVariants.{Nothing, Holds}
 use Rattle.step_meaning.specs.Types.{kind_number, same_type}
-use Rattle.step_meaning.specs.Memory.{Slot, Block, Frame, Memory, typed, slot_at, block, block_in, frame_of, room_at, reached, set_cell, at_block, at_frame, changed, stored}
+use Rattle.step_meaning.specs.Memory.{Slot, Block, Frame, Memory, filled, typed, slot_at, block, block_in, frame_of, room_at, reached, set_cell, at_block, at_frame, changed, stored}
 use Rattle.step_meaning.specs.Numbers.{is_in_range}
 use Rattle.step_meaning.specs.Traced.{HasType, CellHasType, SlotTyped, PointsIntoProgram}
 use Rattle.step_meaning.specs.TracedRuns.{cells_declared}
@@ -170,6 +170,11 @@ pub blocks_declared : (c : Cell) (o i : ℕ) (bs : List Block) → map cells_dec
 blocks_declared c o i [] = refl
 blocks_declared c o zero (b ∷ bs) = ap (λ ts. ts ∷ map cells_declared bs) (set_declared c o b)
 blocks_declared c o (suc i) (b ∷ bs) = ap (λ ts. cells_declared b ∷ ts) (blocks_declared c o i bs)
+
+pub filled_declared : (b : Block) (vs : List Value) → cells_declared (filled b vs) ≡ cells_declared b
+filled_declared [] vs = refl
+filled_declared (s ∷ b) [] = refl
+filled_declared (s ∷ b) (v ∷ vs) = ap (λ ts. s.declared ∷ ts) (filled_declared b vs)
 
 -- ---- frames
 

@@ -13,7 +13,7 @@ use Rattle.step_meaning.specs.declared.program.Declared.{Declared}
 use Rattle.step_meaning.specs.declared.program.Function.{Function}
 use Rattle.step_meaning.specs.declared.program.Core.{Core}
 use Rattle.step_meaning.specs.Types.{same_type, object_cells}
-use Rattle.step_meaning.specs.Memory.{Slot, Block, empty_block, filled}
+use Rattle.step_meaning.specs.Memory.{Slot, empty_block, filled}
 use Rattle.step_meaning.specs.Steps.{Item, Made, Judged, End, Exit, Fault, More, Trace, Stop, Then, steps}
 use Rattle.step_meaning.specs.Flow.{direct, DirectCall, CallGives, Returned, Ended}
 use Rattle.step_meaning.specs.Calls as ca
@@ -28,7 +28,7 @@ use Rattle.step_meaning.specs.Traced.{SlotTyped, is_program_kind}
 use Rattle.step_meaning.specs.TracedRuns.{cells_declared}
 use Rattle.step_meaning.proofs.Flows.{run_logged}
 use Rattle.step_meaning.proofs.Ranges.{false_is_not_true, left_of_and, right_of_and}
-use Rattle.step_meaning.proofs.TypedMemory.{Each, WhereSome, is_empty, get_fits, InCell, has_same_type, same_type_turned, number_same, BlockFits, Shape, MemoryFits}
+use Rattle.step_meaning.proofs.TypedMemory.{Each, WhereSome, is_empty, get_fits, InCell, has_same_type, same_type_turned, number_same, BlockFits, filled_declared, Shape, MemoryFits}
 use Rattle.step_meaning.proofs.StepsFit.{InCells, ReturnFits, global_cells, StepFits, ItemFits}
 use Rattle.step_meaning.proofs.TypedOperators.{OfType, not_true}
 use Rattle.step_meaning.proofs.TypedCalls.{SizesFit, AllCallsKeep, keeps_activation}
@@ -124,11 +124,6 @@ module _ (q : Core) (h : IsWellFormed q) where
   blocks_fit i (d ∷ ds) [] k e = absurd e
   blocks_fit i (d ∷ ds) (vs ∷ vss) k e =
       ((filled_fits i (object_cells q.layouts d.ctype) vs e.0, rw (filled_length (object_cells q.layouts d.ctype) vs) (sizes_fit q.layouts h.structs d.ctype (left_of_and _ _ k))), blocks_fit (suc i) ds vss (right_of_and _ _ k) e.1)
-
-  filled_declared : (b : Block) (vs : List Value) → cells_declared (filled b vs) ≡ cells_declared b
-  filled_declared [] vs = refl
-  filled_declared (s ∷ b) [] = refl
-  filled_declared (s ∷ b) (v ∷ vs) = ap (λ ts. s.declared ∷ ts) (filled_declared b vs)
 
   globals_declared : (ds : List Declared) (vss : List (List Value)) → map cells_declared (global_blocks q.layouts ds vss) ≡ map (λ d. cells_declared (empty_block q.layouts d)) ds
   globals_declared [] vss = refl

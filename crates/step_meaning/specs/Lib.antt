@@ -46,3 +46,4 @@ pub mod Scopes
 pub mod Fit
 pub mod FitsBounded
 pub mod FoldPrefixes
+pub mod TracedPrefixes

@@ -1,6 +1,6 @@
 -- Lists of steps that are traced for a core: conditions on the activations, memories and values of a list of steps. A list that meets them need not be one of a run.
 -- A law about monitors speaks of all such lists.
-use Rattle.std.specs.Prelude.{◌≡◌, ◌≢◌, ◌↔◌, ℕ, suc, ◌≤◌, ◌<◌, ◌^◌, Bool, true, false, List, [], ◌∷◌, map, length, slice_get, Option, Some, None, IsTrue, All, AllPairs}
+use Rattle.std.specs.Prelude.{◌≡◌, ◌≢◌, ◌↔◌, ℕ, suc, ◌≤◌, ◌<◌, ◌^◌, Bool, true, false, List, [], ◌∷◌, map, length, slice_get, Option, Some, None, option_map, IsTrue, All, AllPairs}
 use Rattle.step_meaning.specs.declared.value.CType.{CType}
 use Rattle.step_meaning.specs.declared.value.CType.TheVariants as type
 use Rattle.step_meaning.specs.declared.value.NameKind.{NameKind}
@@ -14,7 +14,7 @@ use Rattle.step_meaning.specs.declared.value.Action.TheVariants as act
 use Rattle.step_meaning.specs.declared.program.Core.{Core}
 use Rattle.step_meaning.specs.declared.program.Function.{Function}
 use Rattle.step_meaning.specs.Numbers.{is_in_range}
-use Rattle.step_meaning.specs.Memory.{Memory, Frame, Slot, Block, frame_of}
+use Rattle.step_meaning.specs.Memory.{Memory, Slot, Block, block}
 use Rattle.step_meaning.specs.Steps.{Step}
 use Rattle.step_meaning.specs.Limits.{is_enter}
 use Rattle.step_meaning.specs.ExpressionTypes.{has_body, parameter_types}
@@ -112,15 +112,13 @@ ActionHasTypes f (act.Enter g vs) = HaveTypes (parameter_types f) vs
 ActionHasTypes f (act.Return g v) = ResultHasType f.result v
 ActionHasTypes f _ = Unit {0}
 
--- the first blocks hold the arguments, one each
-abbrev pub HoldArguments : List Block → List Value → Type 0
-HoldArguments bs [] = Unit {0}
-HoldArguments [] (v ∷ vs) = ⊥
-HoldArguments (b ∷ bs) (v ∷ vs) = (map (λ s. s.cell) b ≡ (Holds v ∷ [])) × HoldArguments bs vs
+abbrev pub contents : Block → List Cell
+contents b = map (λ s. s.cell) b
 
--- the memory of an Enter has a frame for the new activation, and holds the arguments in the parameters. Other locals aren't asked of the frame
+-- the memory of an Enter holds the arguments in the parameters: the i-th local of the new activation has one cell, with the i-th argument.
+-- Other locals aren't asked, and where there are no arguments no frame is asked
 abbrev pub ParametersHold : Action → ℕ → Memory → Type 0
-ParametersHold (act.Enter g vs) a memory = (r : Frame) × (frame_of a memory.frames ≡ Some r) × HoldArguments r.locals vs
+ParametersHold (act.Enter g vs) a memory = (i : ℕ) (v : Value) → slice_get vs i ≡ Some v → option_map contents (block memory (record { kind = names.Local; activation = a; index = i })) ≡ Some (Holds v ∷ [])
 ParametersHold _ a memory = Unit {0}
 
 -- ---- steps

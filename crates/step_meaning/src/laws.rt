@@ -4,6 +4,7 @@ ghost use Rattle.step_meaning.specs.FitsBounded.{FitsBounded, TracedSightsTyped}
 ghost use Rattle.step_meaning.specs.FoldPrefixes.{FoldsPrefixes};
 ghost use Rattle.step_meaning.specs.Limits.{OutcomeComputed};
 ghost use Rattle.step_meaning.specs.Runs.{FlowsAgree};
+ghost use Rattle.step_meaning.specs.TracedPrefixes.{TracedPrefixes};
 ghost use Rattle.step_meaning.specs.TracedRuns.{WellFormedTraced};
 
 /// Larger bounds give the same first steps of a run, with the verdicts before each.
@@ -38,7 +39,8 @@ pub fn traced_sights_typed()
 {}
 
 /// The steps of a run of a well-formed program, on any input and for any bound, are a traced list;
-/// the memory of each has a frame for the step's activation, and the program's cells of file scope.
+/// the memory of each has a frame for the step's activation with its function's variables, and the variables of file
+/// scope, with the cells and types that the program declares.
 pub fn runs_are_traced()
     ensures { WellFormedTraced }
 {}
@@ -46,4 +48,9 @@ pub fn runs_are_traced()
 /// The fold of the first steps of a traced list is the beginning of the fold of the list.
 pub fn folds_prefixes()
     ensures { FoldsPrefixes }
+{}
+
+/// The first steps of a traced list are traced.
+pub fn traced_prefixes()
+    ensures { TracedPrefixes }
 {}
