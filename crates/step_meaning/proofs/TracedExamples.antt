@@ -168,15 +168,15 @@ two_enters memory = main_enters ∷ ignore_enters memory ∷ []
 -- the Enter of `main` and that of `ignore` with 7, whose memory holds it in the parameter
 argument_held : IsTraced with_parameter (two_enters (open_with seven))
 argument_held = record {
-    each = at_both (λ i s. IsStepOf with_parameter s) main_fits ignore_fits;
-    first = λ s e. at_both (λ i s. s.activation ≡ i) refl refl 0 s e;
-    main_alone = λ i s e. at_both (λ i s. ((s.activation ≡ 0) → (s.function ≡ 3)) × ((s.function ≡ 3) → (s.activation ≡ 0))) ((λ h. refl), (λ h. refl)) ((λ h. absurd (omega arith)), (λ h. absurd (omega arith))) i s e;
-    one_function = λ i j s t a b h. let m : s.function + s.activation ≡ 3 = at_both (λ i s. s.function + s.activation ≡ 3) refl refl i s a in let n : t.function + t.activation ≡ 3 = at_both (λ i s. s.function + s.activation ≡ 3) refl refl j t b in omega arith;
-    entered = λ i s e. (i, s, omega arith, e, refl, at_both (λ i s. IsTrue (is_enter s.action)) refl refl i s e);
-    enters_first = λ i j s t a b h e. let m : s.activation ≡ i = at_both (λ i s. s.activation ≡ i) refl refl i s a in let n : t.activation ≡ j = at_both (λ i s. s.activation ≡ i) refl refl j t b in (omega arith, λ f. omega arith);
-    returns_last = λ i j s t a b h e. absurd (at_both (λ i s. IsTrue (is_return s.action) → ⊥) true_is_not_false true_is_not_false i s a e);
-    main_ends = λ i s a h e. absurd (at_both (λ i s. IsTrue (is_return s.action) → ⊥) true_is_not_false true_is_not_false i s a e);
-  }
+  each = at_both (λ i s. IsStepOf with_parameter s) main_fits ignore_fits;
+  first = λ s e. at_both (λ i s. s.activation ≡ i) refl refl 0 s e;
+  main_alone = λ i s e. at_both (λ i s. ((s.activation ≡ 0) → (s.function ≡ 3)) × ((s.function ≡ 3) → (s.activation ≡ 0))) ((λ h. refl), (λ h. refl)) ((λ h. absurd (omega arith)), (λ h. absurd (omega arith))) i s e;
+  one_function = λ i j s t a b h. let m : s.function + s.activation ≡ 3 = at_both (λ i s. s.function + s.activation ≡ 3) refl refl i s a in let n : t.function + t.activation ≡ 3 = at_both (λ i s. s.function + s.activation ≡ 3) refl refl j t b in omega arith;
+  entered = λ i s e. (i, s, omega arith, e, refl, at_both (λ i s. IsTrue (is_enter s.action)) refl refl i s e);
+  enters_first = λ i j s t a b h e. let m : s.activation ≡ i = at_both (λ i s. s.activation ≡ i) refl refl i s a in let n : t.activation ≡ j = at_both (λ i s. s.activation ≡ i) refl refl j t b in (omega arith, λ f. omega arith);
+  returns_last = λ i j s t a b h e. absurd (at_both (λ i s. IsTrue (is_return s.action) → ⊥) true_is_not_false true_is_not_false i s a e);
+  main_ends = λ i s a h e. absurd (at_both (λ i s. IsTrue (is_return s.action) → ⊥) true_is_not_false true_is_not_false i s a e);
+}
   where
     at_both : (P : ℕ → Step → Type 0) → P 0 main_enters → P 1 (ignore_enters (open_with seven)) → (i : ℕ) (s : Step) → At (two_enters (open_with seven)) i s → P i s
     at_both P a b zero s e = subst (P 0) (same_some main_enters s e) a
