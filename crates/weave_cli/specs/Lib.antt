@@ -5,3 +5,4 @@ pub mod FirstCore
 pub mod Simulation
 pub mod FirstTask
 pub mod Answers
+pub mod Arguments
