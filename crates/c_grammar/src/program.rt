@@ -37,7 +37,12 @@ pub enum Item {
     Ghost(Leaf),
 }
 
-#[derive(Drop)]
 pub struct ProgramTree {
     pub items: Items<Item>,
+}
+
+impl Drop for ProgramTree {
+    fn drop(self) {
+        let ProgramTree { items: _items } = self;
+    }
 }

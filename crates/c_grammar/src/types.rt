@@ -40,7 +40,7 @@ pub struct Star {
     pub consts: Items<Leaf>,
 }
 
-/// The type in a cast.
+/// The type in a cast, or after `sizeof`.
 #[derive(Drop)]
 pub struct TypeName {
     pub base: Base,
