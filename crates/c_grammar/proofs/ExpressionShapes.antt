@@ -1,5 +1,5 @@
 -- What each alternative of an expression writes, as one equation each, and cases on a tree.
-use Rattle.std.proofs.Common.{◌≡◌, ℕ, suc, Bool, true, false, List, [], ◌∷◌, ◌++◌, Option, Some, None, refl, sym, ap, ap₂, subst, map, ◌∙◌}
+use Rattle.std.proofs.Common.{◌≡◌, ℕ, suc, Bool, true, false, not, List, [], ◌∷◌, ◌++◌, Option, Some, None, refl, sym, ap, ap₂, subst, map, ◌∙◌}
 use Rattle.c_grammar.specs.declared.word.Word.{Word}
 use Rattle.c_grammar.specs.declared.word.Word.TheVariants as w
 use Rattle.c_grammar.specs.declared.word.Leaf.{Leaf}
@@ -29,9 +29,9 @@ use Rattle.c_grammar.specs.declared.expression.Unary.TheVariants as u
 use Rattle.c_grammar.specs.declared.expression.Suffix.TheVariants as s
 use Rattle.c_grammar.specs.declared.expression.Primary.TheVariants as p
 use Rattle.c_grammar.specs.Words.{same}
-use Rattle.c_grammar.specs.Written.{Written, nothing, ◌then◌, one, one_of, nested, optional, run, links, chain}
+use Rattle.c_grammar.specs.Written.{Written, nothing, ◌then◌, one, one_of, nested, only, optional, run, links, chain}
 use Rattle.c_grammar.specs.Types.{type_name}
-use Rattle.c_grammar.specs.Expressions.{is_comma, is_product_operator, is_sum_operator, is_shift_operator, is_relation_operator, is_equal_operator, is_prefix_operator, is_assignment_operator, assign_step, choice_step, primary_step, suffix_step, unary_step, and_step, bit_and_step, bit_or_step, bit_xor_step, equal_step, or_step, postfix_step, product_step, relation_step, shift_step, sum_step, assign, choice, primary, suffix, unary, and, bit_and, bit_or, bit_xor, equal, or, postfix, product, relation, shift, sum}
+use Rattle.c_grammar.specs.Expressions.{is_comma, is_product_operator, is_sum_operator, is_shift_operator, is_relation_operator, is_equal_operator, is_prefix_operator, is_assignment_operator, assign_step, choice_step, primary_step, suffix_step, unary_step, and_step, bit_and_step, bit_or_step, bit_xor_step, equal_step, or_step, postfix_step, product_step, relation_step, shift_step, sum_step, assign, choice, primary, suffix, OperandShape, unary_shape, is_cast, unary, and, bit_and, bit_or, bit_xor, equal, or, postfix, product, relation, shift, sum}
 
 -- parts that were replaced by what they write
 pub run-map : {A B : Type 0} (f : A → Written) (g : B → Written) (h : A → B) → ((a : A) → g (h a) ≡ f a) → (xs : List A) → run g (map h xs) ≡ run f xs
@@ -57,7 +57,7 @@ unfolding assign choice assign_step
 assign-Choice x = ap assign (sym (a.rolls-Choice x)) ∙ fold-roll-Assign _ _ _ _ _ _ _ _ _ _ _ _ _ _ _ _ assign_step choice_step primary_step suffix_step unary_step and_step bit_and_step bit_or_step bit_xor_step equal_step or_step postfix_step product_step relation_step shift_step sum_step (Assign-F.Choice x)
 
 pub assign-Assign : (l : Unary) (t : Leaf) (r : Assign) → assign (a.Assign l t r) ≡ unary l then one_of is_assignment_operator t then nested (assign r)
-unfolding assign unary assign_step
+unfolding assign unary unary_shape assign_step
 assign-Assign l t r = ap assign (sym (a.rolls-Assign l t r)) ∙ fold-roll-Assign _ _ _ _ _ _ _ _ _ _ _ _ _ _ _ _ assign_step choice_step primary_step suffix_step unary_step and_step bit_and_step bit_or_step bit_xor_step equal_step or_step postfix_step product_step relation_step shift_step sum_step (Assign-F.Assign l t r)
 
 pub choice-Or : (x : Or) → choice (c.Or x) ≡ or x
@@ -105,20 +105,69 @@ unfolding sum product sum_step
 sum-is x = fold-roll-Sum _ _ _ _ _ _ _ _ _ _ _ _ _ _ _ _ assign_step choice_step primary_step suffix_step unary_step and_step bit_and_step bit_or_step bit_xor_step equal_step or_step postfix_step product_step relation_step shift_step sum_step (record { 0 = x }) ∙ chain-of is_sum_operator _ _ _ _ _ _ refl (λ l. refl) (λ l. refl)
 
 pub product-is : (x : Chain Unary) → product (roll-Product (record { 0 = x })) ≡ chain is_product_operator unary x
-unfolding product unary product_step
+unfolding product unary unary_shape product_step
 product-is x = fold-roll-Product _ _ _ _ _ _ _ _ _ _ _ _ _ _ _ _ assign_step choice_step primary_step suffix_step unary_step and_step bit_and_step bit_or_step bit_xor_step equal_step or_step postfix_step product_step relation_step shift_step sum_step (record { 0 = x }) ∙ chain-of is_product_operator _ _ _ _ _ _ refl (λ l. refl) (λ l. refl)
 
+-- an operand, and whether it is a cast
+pub shape-Postfix : (x : Postfix) → unary_shape (u.Postfix x) ≡ record { written = postfix x; cast = false }
+unfolding unary_shape unary unary_step postfix
+shape-Postfix x = ap unary_shape (sym (u.rolls-Postfix x)) ∙ fold-roll-Unary _ _ _ _ _ _ _ _ _ _ _ _ _ _ _ _ assign_step choice_step primary_step suffix_step unary_step and_step bit_and_step bit_or_step bit_xor_step equal_step or_step postfix_step product_step relation_step shift_step sum_step (Unary-F.Postfix x)
+
+pub shape-Prefix : (t : Leaf) (x : Unary) → unary_shape (u.Prefix t x) ≡ record { written = one_of is_prefix_operator t then nested (unary x); cast = false }
+unfolding unary_shape unary unary_step
+shape-Prefix t x = ap unary_shape (sym (u.rolls-Prefix t x)) ∙ fold-roll-Unary _ _ _ _ _ _ _ _ _ _ _ _ _ _ _ _ assign_step choice_step primary_step suffix_step unary_step and_step bit_and_step bit_or_step bit_xor_step equal_step or_step postfix_step product_step relation_step shift_step sum_step (Unary-F.Prefix t x)
+
+pub shape-Cast : (l : Leaf) (y : TypeName) (r : Leaf) (x : Unary) → unary_shape (u.Cast l y r x) ≡ record { written = one w.LeftParen l then nested (type_name y) then one w.RightParen r then nested (unary x); cast = true }
+unfolding unary_shape unary unary_step
+shape-Cast l y r x = ap unary_shape (sym (u.rolls-Cast l y r x)) ∙ fold-roll-Unary _ _ _ _ _ _ _ _ _ _ _ _ _ _ _ _ assign_step choice_step primary_step suffix_step unary_step and_step bit_and_step bit_or_step bit_xor_step equal_step or_step postfix_step product_step relation_step shift_step sum_step (Unary-F.Cast l y r x)
+
+pub shape-SizeOf : (t : Leaf) (x : Unary) → unary_shape (u.SizeOf t x) ≡ record { written = one w.SizeOf t then nested (unary x) then only (not (is_cast x)); cast = false }
+unfolding unary_shape unary unary_step is_cast
+shape-SizeOf t x = ap unary_shape (sym (u.rolls-SizeOf t x)) ∙ fold-roll-Unary _ _ _ _ _ _ _ _ _ _ _ _ _ _ _ _ assign_step choice_step primary_step suffix_step unary_step and_step bit_and_step bit_or_step bit_xor_step equal_step or_step postfix_step product_step relation_step shift_step sum_step (Unary-F.SizeOf t x)
+
+pub shape-SizeOfType : (t : Leaf) (l : Leaf) (y : TypeName) (r : Leaf) → unary_shape (u.SizeOfType t l y r) ≡ record { written = one w.SizeOf t then nested (one w.LeftParen l then nested (type_name y) then one w.RightParen r); cast = false }
+unfolding unary_shape unary unary_step
+shape-SizeOfType t l y r = ap unary_shape (sym (u.rolls-SizeOfType t l y r)) ∙ fold-roll-Unary _ _ _ _ _ _ _ _ _ _ _ _ _ _ _ _ assign_step choice_step primary_step suffix_step unary_step and_step bit_and_step bit_or_step bit_xor_step equal_step or_step postfix_step product_step relation_step shift_step sum_step (Unary-F.SizeOfType t l y r)
+
 pub unary-Postfix : (x : Postfix) → unary (u.Postfix x) ≡ postfix x
-unfolding unary postfix unary_step
-unary-Postfix x = ap unary (sym (u.rolls-Postfix x)) ∙ fold-roll-Unary _ _ _ _ _ _ _ _ _ _ _ _ _ _ _ _ assign_step choice_step primary_step suffix_step unary_step and_step bit_and_step bit_or_step bit_xor_step equal_step or_step postfix_step product_step relation_step shift_step sum_step (Unary-F.Postfix x)
+unfolding unary
+unary-Postfix x = ap (λ s. s.written) (shape-Postfix x)
 
 pub unary-Prefix : (t : Leaf) (x : Unary) → unary (u.Prefix t x) ≡ one_of is_prefix_operator t then nested (unary x)
-unfolding unary unary_step
-unary-Prefix t x = ap unary (sym (u.rolls-Prefix t x)) ∙ fold-roll-Unary _ _ _ _ _ _ _ _ _ _ _ _ _ _ _ _ assign_step choice_step primary_step suffix_step unary_step and_step bit_and_step bit_or_step bit_xor_step equal_step or_step postfix_step product_step relation_step shift_step sum_step (Unary-F.Prefix t x)
+unfolding unary
+unary-Prefix t x = ap (λ s. s.written) (shape-Prefix t x)
 
 pub unary-Cast : (l : Leaf) (y : TypeName) (r : Leaf) (x : Unary) → unary (u.Cast l y r x) ≡ one w.LeftParen l then nested (type_name y) then one w.RightParen r then nested (unary x)
-unfolding unary unary_step
-unary-Cast l y r x = ap unary (sym (u.rolls-Cast l y r x)) ∙ fold-roll-Unary _ _ _ _ _ _ _ _ _ _ _ _ _ _ _ _ assign_step choice_step primary_step suffix_step unary_step and_step bit_and_step bit_or_step bit_xor_step equal_step or_step postfix_step product_step relation_step shift_step sum_step (Unary-F.Cast l y r x)
+unfolding unary
+unary-Cast l y r x = ap (λ s. s.written) (shape-Cast l y r x)
+
+pub unary-SizeOf : (t : Leaf) (x : Unary) → unary (u.SizeOf t x) ≡ one w.SizeOf t then nested (unary x) then only (not (is_cast x))
+unfolding unary
+unary-SizeOf t x = ap (λ s. s.written) (shape-SizeOf t x)
+
+pub unary-SizeOfType : (t : Leaf) (l : Leaf) (y : TypeName) (r : Leaf) → unary (u.SizeOfType t l y r) ≡ one w.SizeOf t then nested (one w.LeftParen l then nested (type_name y) then one w.RightParen r)
+unfolding unary
+unary-SizeOfType t l y r = ap (λ s. s.written) (shape-SizeOfType t l y r)
+
+pub is_cast-Postfix : (x : Postfix) → is_cast (u.Postfix x) ≡ false
+unfolding is_cast
+is_cast-Postfix x = ap (λ s. s.cast) (shape-Postfix x)
+
+pub is_cast-Prefix : (t : Leaf) (x : Unary) → is_cast (u.Prefix t x) ≡ false
+unfolding is_cast
+is_cast-Prefix t x = ap (λ s. s.cast) (shape-Prefix t x)
+
+pub is_cast-Cast : (l : Leaf) (y : TypeName) (r : Leaf) (x : Unary) → is_cast (u.Cast l y r x) ≡ true
+unfolding is_cast
+is_cast-Cast l y r x = ap (λ s. s.cast) (shape-Cast l y r x)
+
+pub is_cast-SizeOf : (t : Leaf) (x : Unary) → is_cast (u.SizeOf t x) ≡ false
+unfolding is_cast
+is_cast-SizeOf t x = ap (λ s. s.cast) (shape-SizeOf t x)
+
+pub is_cast-SizeOfType : (t : Leaf) (l : Leaf) (y : TypeName) (r : Leaf) → is_cast (u.SizeOfType t l y r) ≡ false
+unfolding is_cast
+is_cast-SizeOfType t l y r = ap (λ s. s.cast) (shape-SizeOfType t l y r)
 
 pub postfix-is : (x : Primary) (more : List Suffix) → postfix (roll-Postfix (record { primary = x; suffixes = more })) ≡ primary x then run suffix more
 unfolding postfix primary suffix postfix_step
@@ -186,13 +235,15 @@ choice_cases P f1 f2 x = subst P (roll-out-Choice x) (of (out-Choice x))
     of (Choice-F.Choose y q z d e) = subst P (sym (c.rolls-Choose y q z d e)) (f2 y q z d e)
 
 pub unary_cases : (P : Unary → Type 0) → ((y : Postfix) → P (u.Postfix y)) → ((t : Leaf) (y : Unary) → P (u.Prefix t y)) → ((l : Leaf) (y : TypeName) (r : Leaf) (z : Unary) → P (u.Cast l y r z))
-    → (x : Unary) → P x
-unary_cases P f1 f2 f3 x = subst P (roll-out-Unary x) (of (out-Unary x))
+    → ((t : Leaf) (y : Unary) → P (u.SizeOf t y)) → ((t : Leaf) (l : Leaf) (y : TypeName) (r : Leaf) → P (u.SizeOfType t l y r)) → (x : Unary) → P x
+unary_cases P f1 f2 f3 f4 f5 x = subst P (roll-out-Unary x) (of (out-Unary x))
   where
     of : (y : Unary-F Assign Choice Primary Suffix Unary And BitAnd BitOr BitXor Equal Or Postfix Product Relation Shift Sum) → P (roll-Unary y)
     of (Unary-F.Postfix y) = subst P (sym (u.rolls-Postfix y)) (f1 y)
     of (Unary-F.Prefix t y) = subst P (sym (u.rolls-Prefix t y)) (f2 t y)
     of (Unary-F.Cast l y r z) = subst P (sym (u.rolls-Cast l y r z)) (f3 l y r z)
+    of (Unary-F.SizeOf t y) = subst P (sym (u.rolls-SizeOf t y)) (f4 t y)
+    of (Unary-F.SizeOfType t l y r) = subst P (sym (u.rolls-SizeOfType t l y r)) (f5 t l y r)
 
 pub suffix_cases : (P : Suffix → Type 0) → ((l : Leaf) (y : Assign) (r : Leaf) → P (s.Index l y r)) → ((d : Leaf) (n : Leaf) → P (s.Member d n)) → ((d : Leaf) (n : Leaf) → P (s.Arrow d n)) → ((t : Leaf) → P (s.Increment t)) → ((t : Leaf) → P (s.Decrement t))
     → (x : Suffix) → P x

@@ -6,3 +6,4 @@ pub mod Tags
 pub mod ExpressionShapes
 pub mod WordTables
 pub mod LeafLaws
+pub mod Turns

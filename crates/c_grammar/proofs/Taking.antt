@@ -11,12 +11,16 @@ use Rattle.c_grammar.specs.Written.{Written, nothing, ◌then◌, one_of, nested
 words : List Word
 words =
     w.Name ∷ w.Number ∷ w.Character ∷ w.Struct ∷ w.Static ∷ w.Const ∷ w.Extern ∷ w.Register ∷ w.Char ∷ w.Signed ∷ w.Unsigned ∷ w.Short ∷ w.Int
-    ∷ w.Long ∷ w.Void ∷ w.If ∷ w.Else ∷ w.While ∷ w.Do ∷ w.For ∷ w.Break ∷ w.Continue ∷ w.Return ∷ w.LeftBrace ∷ w.RightBrace ∷ w.LeftParen
+    ∷ w.Long ∷ w.Void ∷ w.If ∷ w.Else ∷ w.While ∷ w.Do ∷ w.For ∷ w.Break ∷ w.Continue ∷ w.Return ∷ w.SizeOf ∷ w.LeftBrace ∷ w.RightBrace ∷ w.LeftParen
     ∷ w.RightParen ∷ w.LeftBracket ∷ w.RightBracket ∷ w.Semicolon ∷ w.Comma ∷ w.Question ∷ w.Colon ∷ w.Dot ∷ w.Arrow ∷ w.Increment ∷ w.Decrement
     ∷ w.Ampersand ∷ w.Star ∷ w.Plus ∷ w.Minus ∷ w.Tilde ∷ w.Exclamation ∷ w.Slash ∷ w.Percent ∷ w.ShiftLeft ∷ w.ShiftRight ∷ w.Less ∷ w.Greater
     ∷ w.LessEqual ∷ w.GreaterEqual ∷ w.EqualEqual ∷ w.NotEqual ∷ w.Caret ∷ w.Bar ∷ w.AndAnd ∷ w.OrOr ∷ w.Assign ∷ w.StarAssign ∷ w.SlashAssign
     ∷ w.PercentAssign ∷ w.PlusAssign ∷ w.MinusAssign ∷ w.ShiftLeftAssign ∷ w.ShiftRightAssign ∷ w.AndAssign ∷ w.XorAssign ∷ w.OrAssign ∷ w.Meta
-    ∷ w.Ghost ∷ w.Assert ∷ w.Unused ∷ w.End ∷ []
+    ∷ w.Ghost ∷ w.Assert ∷ w.SlashTrue ∷ w.SlashFalse ∷ w.SlashValid ∷ w.SlashValidRead ∷ w.SlashSeparated ∷ w.SlashNull ∷ w.SlashWritten
+    ∷ w.SlashRead ∷ w.SlashCalled ∷ w.SlashAt ∷ w.SlashResult ∷ w.SlashProp ∷ w.SlashName ∷ w.SlashTargets ∷ w.SlashContext ∷ w.SlashAll ∷ w.SlashDiff
+    ∷ w.SlashUnion ∷ w.SlashInter ∷ w.SlashCallees ∷ w.SlashWriting ∷ w.SlashReading ∷ w.SlashCalling ∷ w.SlashPrecond ∷ w.SlashPostcond ∷ w.SlashWeak
+    ∷ w.SlashStrong ∷ w.Implies ∷ w.Equivalent ∷ w.DotDot ∷ w.DirectiveInit ∷ w.DirectiveAccept ∷ w.DirectiveDeterministic ∷ w.String ∷ w.CallEvent
+    ∷ w.ReturnEvent ∷ w.EitherEvent ∷ w.PreLabel ∷ w.HereLabel ∷ w.MetaName ∷ w.OtherName ∷ w.Unused ∷ w.End ∷ []
 
 word_of : (a : Word) → get_or words (index a) w.End ≡ a
 unfolding words
@@ -43,6 +47,7 @@ word_of w.For = refl
 word_of w.Break = refl
 word_of w.Continue = refl
 word_of w.Return = refl
+word_of w.SizeOf = refl
 word_of w.LeftBrace = refl
 word_of w.RightBrace = refl
 word_of w.LeftParen = refl
@@ -91,6 +96,47 @@ word_of w.OrAssign = refl
 word_of w.Meta = refl
 word_of w.Ghost = refl
 word_of w.Assert = refl
+word_of w.SlashTrue = refl
+word_of w.SlashFalse = refl
+word_of w.SlashValid = refl
+word_of w.SlashValidRead = refl
+word_of w.SlashSeparated = refl
+word_of w.SlashNull = refl
+word_of w.SlashWritten = refl
+word_of w.SlashRead = refl
+word_of w.SlashCalled = refl
+word_of w.SlashAt = refl
+word_of w.SlashResult = refl
+word_of w.SlashProp = refl
+word_of w.SlashName = refl
+word_of w.SlashTargets = refl
+word_of w.SlashContext = refl
+word_of w.SlashAll = refl
+word_of w.SlashDiff = refl
+word_of w.SlashUnion = refl
+word_of w.SlashInter = refl
+word_of w.SlashCallees = refl
+word_of w.SlashWriting = refl
+word_of w.SlashReading = refl
+word_of w.SlashCalling = refl
+word_of w.SlashPrecond = refl
+word_of w.SlashPostcond = refl
+word_of w.SlashWeak = refl
+word_of w.SlashStrong = refl
+word_of w.Implies = refl
+word_of w.Equivalent = refl
+word_of w.DotDot = refl
+word_of w.DirectiveInit = refl
+word_of w.DirectiveAccept = refl
+word_of w.DirectiveDeterministic = refl
+word_of w.String = refl
+word_of w.CallEvent = refl
+word_of w.ReturnEvent = refl
+word_of w.EitherEvent = refl
+word_of w.PreLabel = refl
+word_of w.HereLabel = refl
+word_of w.MetaName = refl
+word_of w.OtherName = refl
 word_of w.Unused = refl
 word_of w.End = refl
 

@@ -1,7 +1,10 @@
 //! Operands with operators between them.
 
+ghost use Rattle.std.specs.Prelude.{◌≡◌, [], ◌∷◌, ◌++◌, OnOk};
+
 use crate::word::Leaf;
 use sqlite_items::Items;
+use std::alloc::AllocError;
 
 /// An operator, or the comma of a list, and the operand after it.
 #[derive(Drop)]
@@ -15,4 +18,12 @@ pub struct Link<T> {
 pub struct Chain<T> {
     pub first: T,
     pub rest: Items<Link<T>>,
+}
+
+/// Puts the item after those of the list.
+pub fn push<T: Drop>(list: &mut Vec<T>, item: T) -> Result<(), AllocError>
+    ensures { OnOk result (list.new.items ≡ list.old.items ++ item ∷ []) }
+{
+    list.push(item)?;
+    Ok(())
 }

@@ -31,11 +31,19 @@ pub enum Init {
     Braces(Leaf, Boxed<Chain<Init>>, Option<Leaf>, Leaf),
 }
 
-#[derive(Drop)]
 pub enum Declared {
     Plain(Declarator),
     /// A declarator, `=` and the initialiser.
     Initialised(Declarator, Leaf, Init),
+}
+
+impl Drop for Declared {
+    fn drop(self) {
+        match self {
+            Declared::Plain(_declarator) => {}
+            Declared::Initialised(_declarator, _equals, _init) => {}
+        }
+    }
 }
 
 /// The sizes of a parameter that has no name, of which the first may be empty.
@@ -46,7 +54,6 @@ pub enum Sizes {
     More(Boxed<Sizes>, Leaf, Choice, Leaf),
 }
 
-#[derive(Drop)]
 pub enum Parameter {
     /// Each `const`, the base, the declarator.
     Named(Items<Leaf>, Base, Declarator),
@@ -54,9 +61,27 @@ pub enum Parameter {
     Nameless(Items<Leaf>, Base, Items<Star>, Option<Sizes>),
 }
 
-#[derive(Drop)]
+impl Drop for Parameter {
+    fn drop(self) {
+        match self {
+            Parameter::Named(_consts, _base, _declarator) => {}
+            Parameter::Nameless(_consts, _base, _stars, _sizes) => {}
+        }
+    }
+}
+
 pub enum Params {
     Empty,
     Void(Leaf),
     List(Chain<Parameter>),
+}
+
+impl Drop for Params {
+    fn drop(self) {
+        match self {
+            Params::Empty => {}
+            Params::Void(_void) => {}
+            Params::List(_all) => {}
+        }
+    }
 }

@@ -72,6 +72,10 @@ pub enum Unary {
     Prefix(Leaf, Boxed<Unary>),
     /// `(`, a type, `)` and the operand.
     Cast(Leaf, Boxed<TypeName>, Leaf, Boxed<Unary>),
+    /// `sizeof` and its operand, which is no cast (C11 6.5.3.4).
+    SizeOf(Leaf, Boxed<Unary>),
+    /// `sizeof`, `(`, a type, `)`.
+    SizeOfType(Leaf, Leaf, Boxed<TypeName>, Leaf),
 }
 
 #[cycle(expression)]

@@ -7,7 +7,7 @@ use crate::word::{Leaf, Mode, Word};
 use c_lexer::{Token, TokenKind};
 use std::alloc::{AllocError, Global};
 
-static KEYWORDS: [(&str, Word); 19] = [
+static KEYWORDS: [(&str, Word); 20] = [
     ("struct", Word::Struct),
     ("static", Word::Static),
     ("const", Word::Const),
@@ -27,6 +27,7 @@ static KEYWORDS: [(&str, Word); 19] = [
     ("break", Word::Break),
     ("continue", Word::Continue),
     ("return", Word::Return),
+    ("sizeof", Word::SizeOf),
 ];
 
 static PUNCTUATORS: [(&str, Word); 45] = [

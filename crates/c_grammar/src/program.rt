@@ -8,7 +8,6 @@ use crate::word::Leaf;
 use sqlite_items::Items;
 
 /// Each `const`, the base, the declarators, `;`.
-#[derive(Drop)]
 pub struct Member {
     pub consts: Items<Leaf>,
     pub base: Base,
@@ -16,14 +15,32 @@ pub struct Member {
     pub semicolon: Leaf,
 }
 
-#[derive(Drop)]
+impl Drop for Member {
+    fn drop(self) {
+        let Member {
+            consts: _consts,
+            base: _base,
+            declarators: _declarators,
+            semicolon: _semicolon,
+        } = self;
+    }
+}
+
 pub enum Body {
     /// `;`: there is none.
     Absent(Leaf),
     Block(Block),
 }
 
-#[derive(Drop)]
+impl Drop for Body {
+    fn drop(self) {
+        match self {
+            Body::Absent(_semicolon) => {}
+            Body::Block(_block) => {}
+        }
+    }
+}
+
 pub enum Item {
     /// `struct`, the tag, `{`, the members, `}`, what is declared, `;`.
     Struct(Leaf, Leaf, Leaf, Items<Member>, Leaf, Option<Chain<Declared>>, Leaf),
@@ -37,7 +54,25 @@ pub enum Item {
     Ghost(Leaf),
 }
 
-#[derive(Drop)]
+impl Drop for Item {
+    fn drop(self) {
+        match self {
+            Item::Struct(_word, _tag, _opening, _members, _closing, _declared, _semicolon) => {}
+            Item::Variables(_prefixes, _base, _declared, _semicolon) => {}
+            Item::Function(_prefixes, _base, _stars, _name, _opening, _params, _closing, _body) =>
+                {}
+            Item::Meta(_annotation) => {}
+            Item::Ghost(_annotation) => {}
+        }
+    }
+}
+
 pub struct ProgramTree {
     pub items: Items<Item>,
+}
+
+impl Drop for ProgramTree {
+    fn drop(self) {
+        let ProgramTree { items: _items } = self;
+    }
 }

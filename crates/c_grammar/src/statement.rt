@@ -8,7 +8,6 @@ use crate::word::Leaf;
 use sqlite_items::{Boxed, Items};
 
 /// A declaration in a function.
-#[derive(Drop)]
 pub enum Local {
     /// Each `const`, the base, what is declared, `;`.
     Variables(Items<Leaf>, Base, Chain<Declared>, Leaf),
@@ -16,11 +15,28 @@ pub enum Local {
     Registers(Leaf, Base, Chain<Declared>, Leaf),
 }
 
+impl Drop for Local {
+    fn drop(self) {
+        match self {
+            Local::Variables(_consts, _base, _all, _semicolon) => {}
+            Local::Registers(_register, _base, _all, _semicolon) => {}
+        }
+    }
+}
+
 /// What stands before the first `;` of a `for`, with the `;`.
-#[derive(Drop)]
 pub enum ForFirst {
     Local(Local),
     Expression(Option<Assign>, Leaf),
+}
+
+impl Drop for ForFirst {
+    fn drop(self) {
+        match self {
+            ForFirst::Local(_local) => {}
+            ForFirst::Expression(_value, _semicolon) => {}
+        }
+    }
 }
 
 #[cycle(statement)]

@@ -27,22 +27,46 @@ pub enum Specifier {
 }
 
 /// What a declaration begins with: a type, and each `const` after it.
-#[derive(Drop)]
 pub struct Base {
     pub specifier: Specifier,
     pub consts: Items<Leaf>,
 }
 
+impl Drop for Base {
+    fn drop(self) {
+        let Base {
+            specifier: _specifier,
+            consts: _consts,
+        } = self;
+    }
+}
+
 /// A `*`, and each `const` after it.
-#[derive(Drop)]
 pub struct Star {
     pub star: Leaf,
     pub consts: Items<Leaf>,
 }
 
-/// The type in a cast.
-#[derive(Drop)]
+impl Drop for Star {
+    fn drop(self) {
+        let Star {
+            star: _star,
+            consts: _consts,
+        } = self;
+    }
+}
+
+/// The type in a cast, or after `sizeof`.
 pub struct TypeName {
     pub base: Base,
     pub stars: Items<Star>,
+}
+
+impl Drop for TypeName {
+    fn drop(self) {
+        let TypeName {
+            base: _base,
+            stars: _stars,
+        } = self;
+    }
 }

@@ -9,7 +9,7 @@ pub enum Mode {
     Woven,
 }
 
-/// A terminal of the grammar.
+/// A terminal of the grammars of C, of annotations and of Ya.
 #[derive(Clone, Copy, Debug, PartialEq, Eq)]
 pub enum Word {
     Name,
@@ -35,6 +35,7 @@ pub enum Word {
     Break,
     Continue,
     Return,
+    SizeOf,
     LeftBrace,
     RightBrace,
     LeftParen,
@@ -83,8 +84,51 @@ pub enum Word {
     Meta,
     Ghost,
     Assert,
-    /// A token that no rule of the grammar takes: a keyword that isn't used, a punctuator of annotations alone,
-    /// a word after a backslash or a percent sign, or a string.
+    /// This word and those after it, up to `OtherName`, are those of annotations and of Ya. No text of C has them: `leaves_of`
+    /// never makes one, and the readers of annotations and of Ya make them of their own tokens.
+    SlashTrue,
+    SlashFalse,
+    SlashValid,
+    SlashValidRead,
+    SlashSeparated,
+    SlashNull,
+    SlashWritten,
+    SlashRead,
+    SlashCalled,
+    SlashAt,
+    SlashResult,
+    SlashProp,
+    SlashName,
+    SlashTargets,
+    SlashContext,
+    SlashAll,
+    SlashDiff,
+    SlashUnion,
+    SlashInter,
+    SlashCallees,
+    SlashWriting,
+    SlashReading,
+    SlashCalling,
+    SlashPrecond,
+    SlashPostcond,
+    SlashWeak,
+    SlashStrong,
+    Implies,
+    Equivalent,
+    DotDot,
+    DirectiveInit,
+    DirectiveAccept,
+    DirectiveDeterministic,
+    String,
+    CallEvent,
+    ReturnEvent,
+    EitherEvent,
+    PreLabel,
+    HereLabel,
+    MetaName,
+    OtherName,
+    /// A token that has no other word here: a keyword that the grammar of C doesn't use, and of what annotations and Ya have
+    /// beside C, a punctuator, a word after a backslash or a percent sign, or a string, where `leaves_of` makes the leaf.
     Unused,
     /// No token: the end of the text.
     End,

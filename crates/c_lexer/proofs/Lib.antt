@@ -14,3 +14,4 @@ pub mod OpeningLemmas
 pub mod LexingLaws
 pub mod LexedLemmas
 pub mod SpellingLaws
+pub mod ConstantLemmas

@@ -9,7 +9,7 @@ use Rattle.c_lexer.specs.declared.token.IntSuffix.{IntSuffix}
 use Rattle.c_lexer.specs.declared.token.IntSuffix.TheVariants as suffix
 use Rattle.c_lexer.specs.declared.number.Radix.{Radix}
 use Rattle.c_lexer.specs.declared.number.Radix.TheVariants as radix
-use Rattle.c_lexer.specs.Numbers.{base_of, digit_value, value_of, type_limits, is_held, held_number}
+use Rattle.c_lexer.specs.Numbers.{base_of, digit_value, value_of, constant_types, is_held, held_number}
 use Rattle.c_lexer.specs.declared.fault.Flaw.TheVariants as flaw
 
 pub value_none : (base : ℕ) → 0 ≡ value_of base []
@@ -40,7 +40,7 @@ too_wide base digits i h lt le = omega (arith, le, value_more base digits i lt, 
 
 -- no type holds what 64 bits don't
 pub none_holds : (r : Radix) (s : IntSuffix) (value : ℕ) → 2 ^ 64 ≤ value → is_held r s value ≡ false
-unfolding type_limits
+unfolding constant_types
 none_holds radix.Decimal suffix.Plain value h = grind (arith, nat_tests)
 none_holds radix.Octal suffix.Plain value h = grind (arith, nat_tests)
 none_holds radix.Hexadecimal suffix.Plain value h = grind (arith, nat_tests)

@@ -1,6 +1,6 @@
 -- Lexemes: what C has as preprocessing tokens (C11 6.4), and annotations and Ya beside them. The spellings of each sort,
 -- and the longest lexeme that begins at a place (C11 6.4, paragraph 4).
-use Rattle.std.specs.Prelude.{◌≡◌, ℕ, ◌+◌, ◌-◌, ◌<◌, ◌≤◌, Bool, true, false, not, ◌&&◌, ◌||◌, ◌==◌, nat_le, List, [], ◌∷◌, length, take, slice_index, codes}
+use Rattle.std.specs.Prelude.{◌≡◌, ℕ, ◌+◌, ◌-◌, ◌<◌, ◌≤◌, Bool, true, false, not, ◌&&◌, ◌||◌, ◌==◌, nat_le, if◌then◌else◌, List, [], ◌∷◌, length, take, slice_index, codes}
 use Rattle.std.specs.List.{list_any, list_all}
 use Rattle.std.specs.Str.{bytes_eq}
 use Rattle.c_lexer.specs.declared.profile.Profile.{Profile}
@@ -45,6 +45,14 @@ unfoldable pub is_character : List ℕ → Bool
 is_character (a ∷ c ∷ b ∷ []) = a == 39 && (is_plain c && b == 39)
 is_character (a ∷ s ∷ c ∷ b ∷ []) = a == 39 && (s == 92 && (is_escape c && b == 39))
 is_character _ = false
+
+-- the byte that an escape sequence stands for, by the byte after its backslash (C11 6.4.4.4, 5.2.2)
+abbrev pub escaped : ℕ → ℕ
+escaped c = if c == 110 then 10 else (if c == 116 then 9 else (if c == 114 then 13 else (if c == 48 then 0 else c)))
+
+-- the value of a character constant
+unfoldable pub character_value : List ℕ → ℕ
+character_value w = if slice_index w 1 == 92 then escaped (slice_index w 2) else slice_index w 1
 
 -- what follows a `'` that begins a character
 abbrev pub is_plain_character : List ℕ → Bool

@@ -8,3 +8,4 @@ pub mod Numbers
 pub mod Comments
 pub mod Lexing
 pub mod LexingLaws
+pub mod ConstantLaws

@@ -1,9 +1,12 @@
 -- Integer constants (C11 6.4.4.1), with `int` of 32 bits and `long` of 64.
-use Rattle.std.specs.Prelude.{ℕ, ◌+◌, ◌-◌, ◌*◌, ◌^◌, Bool, ◌||◌, ◌==◌, nat_lt, if◌then◌else◌, List, [], ◌∷◌, length, drop, slice_index, codes, fold, take_while, Option, Some, None, Result, Ok, Err}
+use Rattle.std.specs.Prelude.{ℕ, ◌+◌, ◌-◌, ◌*◌, ◌^◌, Bool, ◌||◌, ◌==◌, nat_lt, if◌then◌else◌, List, [], ◌∷◌, length, drop, slice_index, codes, fold, take_while, Option, Some, None, option_map, Result, Ok, Err}
 use Rattle.std.specs.List.{list_any}
 use Rattle.std.specs.Str.{bytes_eq}
 use Rattle.c_lexer.specs.declared.token.IntSuffix.{IntSuffix}
 use Rattle.c_lexer.specs.declared.token.IntSuffix.TheVariants as suffix
+use Rattle.c_lexer.specs.declared.token.ConstantType.{ConstantType}
+use Rattle.c_lexer.specs.declared.token.ConstantType.TheVariants as type
+use Rattle.c_lexer.specs.declared.token.IntegerConstant.{IntegerConstant}
 use Rattle.c_lexer.specs.declared.fault.Flaw.{Flaw}
 use Rattle.c_lexer.specs.declared.fault.Flaw.TheVariants as flaw
 use Rattle.c_lexer.specs.declared.number.Radix.{Radix}
@@ -48,7 +51,7 @@ suffix_of w =
     else (if list_any (bytes_eq w) (codes "ul" ∷ codes "uL" ∷ codes "Ul" ∷ codes "UL" ∷ codes "lu" ∷ codes "lU" ∷ codes "Lu" ∷ codes "LU" ∷ []) then Some suffix.UL
     else None)))
 
--- the types that a constant may have, in their order, each by the least number that it doesn't hold
+-- the least number that each type doesn't hold
 abbrev pub int_limit : ℕ
 int_limit = 2 ^ 31
 
@@ -61,17 +64,24 @@ long_limit = 2 ^ 63
 abbrev pub unsigned_long_limit : ℕ
 unsigned_long_limit = 2 ^ 64
 
-unfoldable pub type_limits : Radix → IntSuffix → List ℕ
-type_limits radix.Decimal suffix.Plain = int_limit ∷ long_limit ∷ []
-type_limits radix.Decimal suffix.L = long_limit ∷ []
-type_limits _ suffix.Plain = int_limit ∷ unsigned_int_limit ∷ long_limit ∷ unsigned_long_limit ∷ []
-type_limits _ suffix.L = long_limit ∷ unsigned_long_limit ∷ []
-type_limits _ suffix.U = unsigned_int_limit ∷ unsigned_long_limit ∷ []
-type_limits _ suffix.UL = unsigned_long_limit ∷ []
+abbrev pub limit_of : ConstantType → ℕ
+limit_of type.Int = int_limit
+limit_of type.UnsignedInt = unsigned_int_limit
+limit_of type.Long = long_limit
+limit_of type.UnsignedLong = unsigned_long_limit
+
+-- the types that a constant may have, in their order
+unfoldable pub constant_types : Radix → IntSuffix → List ConstantType
+constant_types radix.Decimal suffix.Plain = type.Int ∷ type.Long ∷ []
+constant_types radix.Decimal suffix.L = type.Long ∷ []
+constant_types _ suffix.Plain = type.Int ∷ type.UnsignedInt ∷ type.Long ∷ type.UnsignedLong ∷ []
+constant_types _ suffix.L = type.Long ∷ type.UnsignedLong ∷ []
+constant_types _ suffix.U = type.UnsignedInt ∷ type.UnsignedLong ∷ []
+constant_types _ suffix.UL = type.UnsignedLong ∷ []
 
 -- some type holds the value
 abbrev pub is_held : Radix → IntSuffix → ℕ → Bool
-is_held r s value = list_any (λ limit. nat_lt value limit) (type_limits r s)
+is_held r s value = list_any (λ t. nat_lt value (limit_of t)) (constant_types r s)
 
 abbrev pub held_number : Radix → List ℕ → Option IntSuffix → Result IntSuffix Flaw
 held_number r digits None = Err flaw.BadNumber
@@ -86,3 +96,24 @@ unfoldable pub number_of : List ℕ → Result IntSuffix Flaw
 number_of w =
     let r = radix_of w in
     number_with r (take_while (is_digit_in r) (body_of r w)) (rest_after (is_digit_in r) (body_of r w))
+
+-- ---- what a constant is
+
+-- the number that the digits after the prefix write
+unfoldable pub number_value : List ℕ → ℕ
+number_value w = let r = radix_of w in value_of (base_of r) (take_while (is_digit_in r) (body_of r w))
+
+-- the first type that holds the value
+unfoldable pub first_holding : List ConstantType → ℕ → Option ConstantType
+first_holding [] value = None
+first_holding (t ∷ ts) value = if nat_lt value (limit_of t) then Some t else first_holding ts value
+
+unfoldable pub constant_with : IntSuffix → List ℕ → Option IntegerConstant
+constant_with s w = option_map (λ t. record { value = number_value w; kind = t }) (first_holding (constant_types (radix_of w) s) (number_value w))
+
+abbrev constant_by : Result IntSuffix Flaw → List ℕ → Option IntegerConstant
+constant_by (Ok s) w = constant_with s w
+constant_by (Err f) w = None
+
+unfoldable pub constant_of : List ℕ → Option IntegerConstant
+constant_of w = constant_by (number_of w) w

@@ -3,6 +3,7 @@
 
 pub mod bytes;
 mod comment;
+pub mod constant;
 mod fault;
 mod first;
 mod front;
@@ -18,4 +19,4 @@ mod token;
 pub use fault::LexFault;
 pub use first::{first_tokens, one_token_list, token_bytes, tokens_cover_text};
 pub use lexing::{lex, lex_annotation, lex_spec};
-pub use token::{IntSuffix, Place, Refusal, Token, TokenKind};
+pub use token::{ConstantType, IntSuffix, IntegerConstant, Place, Refusal, Token, TokenKind};

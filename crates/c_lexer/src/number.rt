@@ -18,7 +18,7 @@ pub(crate) enum Radix {
 }
 
 #[tactic(auto, unfolding(crate::specs::Numbers::radix_of))]
-fn radix_of(word: &[u8]) -> Radix
+pub(crate) fn radix_of(word: &[u8]) -> Radix
     ensures { result ≡ radix_of word.now }
 {
     if byte_at(word, 0) != b'0' {
@@ -30,7 +30,7 @@ fn radix_of(word: &[u8]) -> Radix
     }
 }
 
-fn body_of(radix: Radix, word: &[u8]) -> &[u8]
+pub(crate) fn body_of(radix: Radix, word: &[u8]) -> &[u8]
     ensures { result.now ≡ body_of radix word.now }
 {
     match radix {
@@ -39,7 +39,7 @@ fn body_of(radix: Radix, word: &[u8]) -> &[u8]
     }
 }
 
-fn base_of(radix: Radix) -> u64
+pub(crate) fn base_of(radix: Radix) -> u64
     ensures { result ≡ base_of radix }
 {
     match radix {
@@ -59,7 +59,7 @@ fn is_digit_in(radix: Radix, byte: u8) -> bool
     }
 }
 
-fn digit_len(radix: Radix, body: &[u8]) -> usize
+pub(crate) fn digit_len(radix: Radix, body: &[u8]) -> usize
     ensures { result ≡ length (take_while (is_digit_in radix) body.now) }
 {
     body.iter()
@@ -85,7 +85,7 @@ fn with_digit(value: u64, base: u64, digit: u64) -> Option<u64>
 }
 
 /// The value of the digits; `None` from 2^64 on.
-fn value_of(base: u64, digits: &[u8]) -> Option<u64>
+pub(crate) fn value_of(base: u64, digits: &[u8]) -> Option<u64>
     requires { 0 < base }
     ensures { MatchOption result (2 ^ 64 ≤ value_of base digits.now) (λ value. value ≡ value_of base digits.now) }
 {
@@ -126,7 +126,7 @@ fn suffix_of(bytes: &[u8]) -> Option<IntSuffix>
 }
 
 /// Whether the value is one of `long`; only for a decimal constant without `u` that is all there is.
-#[tactic(auto, unfolding(crate::specs::Numbers::type_limits))]
+#[tactic(auto, unfolding(crate::specs::Numbers::constant_types))]
 fn is_held(radix: Radix, suffix: IntSuffix, value: u64) -> bool
     requires { value < 2 ^ 64 }
     ensures { result ≡ is_held radix suffix value }

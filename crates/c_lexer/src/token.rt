@@ -24,6 +24,22 @@ pub enum IntSuffix {
     UL,
 }
 
+/// The types of integer constants (C11 6.4.4.1), of which `int` has 32 bits and `long` has 64.
+#[derive(Clone, Copy, Debug, PartialEq, Eq)]
+pub enum ConstantType {
+    Int,
+    UnsignedInt,
+    Long,
+    UnsignedLong,
+}
+
+/// The value of an integer constant, and its type (C11 6.4.4.1).
+#[derive(Clone, Copy, Debug, PartialEq, Eq)]
+pub struct IntegerConstant {
+    pub value: u64,
+    pub kind: ConstantType,
+}
+
 /// What a token is (C11 6.4).
 #[derive(Clone, Copy, Debug, PartialEq, Eq)]
 pub enum TokenKind {
