@@ -18,7 +18,7 @@ use Rattle.step_meaning.specs.declared.expr.Side.TheVariants.{PointerFirst, Poin
 use Rattle.step_meaning.specs.declared.expr.UpdateOp.{UpdateOp}
 use Rattle.step_meaning.specs.declared.expr.UpdateOp.TheVariants.{Integer, Forward, Backward}
 use Rattle.step_meaning.specs.declared.expr.Expr.{Expr, Row_of-Expr, end_of-Expr, more_of-Expr}
-use Rattle.step_meaning.specs.declared.expr.Expr.TheVariants.{Literal, Null, Load, Address, Convert', Unary', Binary', Compare', Move', Difference', Not', Both', Either', Choose', Assign', Update', Invoke', GetChar, PutChar', Discard', Own, Deref', Member', Index'}
+use Rattle.step_meaning.specs.declared.expr.Expr.TheVariants.{Literal, Null, Load, Address, Convert', Unary', Binary', Compare', Move', Difference', Not', Both', Either', Choose', Assign', Update', Invoke', GetChar, PutChar', Malloc', Free', Discard', Own, Deref', Member', Index'}
 use Rattle.step_meaning.specs.declared.expr.Place_.{Place_, end_of-Place_, more_of-Place_}
 use Rattle.step_meaning.specs.declared.predicate.Predicate.{Predicate}
 use Rattle.step_meaning.specs.declared.stmt.VerdictKind.{VerdictKind}

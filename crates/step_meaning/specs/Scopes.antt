@@ -8,6 +8,7 @@ use Rattle.step_meaning.specs.declared.program.Core.{Core}
 use Rattle.step_meaning.specs.declared.program.Function.{Function}
 use Rattle.step_meaning.specs.TypeRules.{are_layouts, keeps_rules}
 use Rattle.step_meaning.specs.Identifiers.{are_distinct}
+use Rattle.step_meaning.specs.Library.{but_allocation}
 
 -- a name in view: its bytes, the variable that it names, and the variable's type
 pub record Entry : Type 0 where
@@ -30,9 +31,9 @@ pub record IsScope (entries : List Entry) (q : Core) : Type 0 where
   -- tags are distinct, and so are the members of one struct
   pub tags : IsTrue (are_distinct (map (λ l. l.tag) q.layouts))
   pub members : IsTrue (list_all (λ l. are_distinct (map (λ d. d.name) l.members)) q.layouts)
-  -- types keep the rules, and name no structs but those of the core
+  -- types keep the rules, and name no structs but those of the core; those of `malloc` and `free` have `void *`
   pub entry_types : AllByRecursion (λ e. IsTrue (keeps_rules q.layouts e.ctype)) entries
-  pub parameter_types : AllByRecursion (ParametersKeepRules q) q.functions
-  pub result_types : AllByRecursion (ResultKeepsRules q) q.functions
+  pub parameter_types : AllByRecursion (ParametersKeepRules q) (but_allocation q.functions)
+  pub result_types : AllByRecursion (ResultKeepsRules q) (but_allocation q.functions)
   -- the parameters are the first of the locals
   pub parameters : AllByRecursion (λ f. f.params ≤ length f.locals) q.functions
