@@ -48,7 +48,7 @@ none_of_points view cells false false is h = h
 none_from : (ss more : List Step) (ghosts : Memory) → HasNoAccept 1 (verdicts (fold_from two_writes keep_x ss ghosts more))
 none_from ss [] ghosts = tt
 none_from ss (s ∷ more) ghosts =
-    none_of_points (sight_of two_writes ss s) (cells_at two_writes keep_x s ghosts) (2 == s.function && fits_action place.Write s.action) (3 == s.function && fits_action place.Write s.action)
+    none_of_points (sight_of two_writes ss s) (cells_at two_writes keep_x s ghosts) (4 == s.function && fits_action place.Write s.action) (5 == s.function && fits_action place.Write s.action)
     (Made s ∷ fold_from two_writes keep_x ss (ghosts_after_code (sight_of two_writes ss s) (code_at keep_x.points s) (cells_at two_writes keep_x s ghosts)) more)
     (none_from ss more (ghosts_after_code (sight_of two_writes ss s) (code_at keep_x.points s) (cells_at two_writes keep_x s ghosts)))
 

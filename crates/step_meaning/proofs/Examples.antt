@@ -149,7 +149,7 @@ two_past_steps = refl
 -- ---- int x = V; int f(void) { return 0; } int g(void) { return 1; } int main(void) { return x && f() || g(); }
 
 abbrev pub short_circuits : ℕ → Core
-short_circuits x = program (declared int ∷ []) ((value.Int (pos x) ∷ []) ∷ []) (function int [] (return (lit 0) ∷ []) ∷ function int [] (return (lit 1) ∷ []) ∷ function int [] (return (either (both (load (global 0)) (invoke 4)) (invoke 5)) ∷ []) ∷ []) 4
+short_circuits x = program (declared int ∷ []) ((value.Int (pos x) ∷ []) ∷ []) (function int [] (return (lit 0) ∷ []) ∷ function int [] (return (lit 1) ∷ []) ∷ function int [] (return (either (both (load (global 0)) (invoke 4)) (invoke 5)) ∷ []) ∷ []) 6
 
 zero_short_ends : end (run (short_circuits 0) [] 10) ≡ Exit (pos 1)
 zero_short_ends = refl
@@ -223,7 +223,7 @@ dangling =
     (function type.Void (declared int ∷ []) (initialise 5 ∷ s.Eval (assign (global 0) (pointer_to int) (e.Address (local 0) int)) ∷ [])
     ∷ function type.Void (declared int ∷ []) (initialise 7 ∷ [])
     ∷ function int [] (s.Eval (invoke 4) ∷ s.Eval (invoke 5) ∷ return (load (deref (e.Load (global 0) (pointer_to int)))) ∷ [])
-    ∷ []) 4
+    ∷ []) 6
 
 dangling_ends : end (run dangling [] 20) ≡ Fault fault.Invalid
 dangling_ends = refl

@@ -80,8 +80,8 @@ keep_x_fits =
     record {
       globals = tt;
       few_globals = lit≤ tt;
-      few_saves = λ f. few_of (2 == f) (3 == f) [] (lit≤ tt);
-      points = (write_fits 2 _ (refl, refl), (write_fits 3 _ (refl, refl), tt));
+      few_saves = λ f. few_of (4 == f) (5 == f) [] (lit≤ tt);
+      points = (write_fits 4 _ (refl, refl), (write_fits 5 _ (refl, refl), tt));
     }
 
 keep_x_alone : FitTogether two_writes (keep_x ∷ [])
@@ -100,7 +100,7 @@ saving_fits =
     record {
       globals = tt;
       few_globals = lit≤ tt;
-      few_saves = λ f. few_of (2 == f) (2 == f) (declared int ∷ []) (lit≤ tt);
+      few_saves = λ f. few_of (4 == f) (4 == f) (declared int ∷ []) (lit≤ tt);
       points = (enter, (leave, tt));
     }
   where
@@ -181,7 +181,7 @@ no_body f = without (f.points.0.function.0) (f.points.0.function.1.0) (f.points.
         one_with_body None = false
         one_with_body (Some g) = has_body g
 
-no_function : Refused (point 4 place.Enter [] [])
+no_function : Refused (point 6 place.Enter [] [])
 no_function f = some_is_not_none _ (f.points.0.function.1.0)
 
 -- ghosts are scalars of types that keep the rules
@@ -210,7 +210,7 @@ many_globals n h f = let k : n ≤ 2 ^ 26 = subst (λ m. m ≤ 2 ^ 26) (length-r
 
 many_saves : (n : ℕ) → 2 ^ 26 < n → Fit two_writes (hooks [] (point 4 place.Enter (replicate n (declared int)) [] ∷ [])) → ⊥
 many_saves n h f =
-    let k : n ≤ 2 ^ 26 = subst (λ m. m ≤ 2 ^ 26) (ap length (append-nil (replicate n (declared int))) ∙ length-replicate n (declared int)) (f.few_saves 2) in
+    let k : n ≤ 2 ^ 26 = subst (λ m. m ≤ 2 ^ 26) (ap length (append-nil (replicate n (declared int))) ∙ length-replicate n (declared int)) (f.few_saves 4) in
     omega arith
 
 -- ghost statements, and assertions of the monitor
@@ -268,7 +268,7 @@ parameter_at_return : Fit recursion (hooks [] (point 4 place.Return [] (is_one (
 parameter_at_return f = false_is_not_true f.points.0.uses.0.1.0
 
 parameter_of_other : Fit recursion (hooks [] (point 5 place.Enter [] (is_one (t.Parameter 4 0) ∷ []) ∷ [])) → ⊥
-parameter_of_other f = not_next 2 (sym f.points.0.uses.0.1.1)
+parameter_of_other f = not_next 4 (sym f.points.0.uses.0.1.1)
 
 parameter_missing : Fit recursion (hooks [] (point 4 place.Enter [] (is_one (t.Parameter 4 1) ∷ []) ∷ [])) → ⊥
 parameter_missing f = f.points.0.fits.0.kinds

@@ -108,7 +108,7 @@ turn_among_both = refl
 -- ---- places and actions: a verdict at each step that a point of `main` fits
 
 abbrev pub marks : HookPlace → List Bool
-marks at = map is_verdict (fold two_writes (hooks [] (point 3 at [] (safe is.True ∷ []) ∷ [])) two_writes_steps)
+marks at = map is_verdict (fold two_writes (hooks [] (point 5 at [] (safe is.True ∷ []) ∷ [])) two_writes_steps)
 
 enter_marks : marks place.Enter ≡ (true ∷ false ∷ false ∷ false ∷ false ∷ false ∷ false ∷ false ∷ [])
 enter_marks = refl

@@ -19,7 +19,7 @@ use Rattle.step_meaning.specs.Sizes.{nodes, depth, nesting}
 use Rattle.step_meaning.specs.Normal.{is_normal, ends_with_return, are_normal_functions}
 use Rattle.step_meaning.specs.Printable.{IsPrintable, is_small, is_small_statement}
 use Rattle.step_meaning.proofs.Examples.{int, lit, global, local, load, deref, index, assign, binary, return, zero_cell}
-use Rattle.step_meaning.proofs.WellFormedExamples.{named, getchar, putchar, adding}
+use Rattle.step_meaning.proofs.WellFormedExamples.{named, getchar, putchar, malloc, free, adding}
 
 -- ---- statements, where r and s are registers
 

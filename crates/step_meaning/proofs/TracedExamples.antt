@@ -97,8 +97,8 @@ module _ (first memory : Memory) (first_fits : IsProgramMemory empty_main first)
   enter_and_leave = record {
     each = at_either (λ i s. IsStepOf empty_main s) enter_fits leave_fits;
     first = λ s e. at_either (λ i s. s.activation ≡ 0) refl refl 0 s e;
-    main_alone = λ i s e. at_either (λ i s. ((s.activation ≡ 0) → (s.function ≡ 2)) × ((s.function ≡ 2) → (s.activation ≡ 0))) ((λ h. refl), (λ h. refl)) ((λ h. refl), (λ h. refl)) i s e;
-    one_function = λ i j s t a b h. at_either (λ i s. s.function ≡ 2) refl refl i s a ∙ sym (at_either (λ j t. t.function ≡ 2) refl refl j t b);
+    main_alone = λ i s e. at_either (λ i s. ((s.activation ≡ 0) → (s.function ≡ 4)) × ((s.function ≡ 4) → (s.activation ≡ 0))) ((λ h. refl), (λ h. refl)) ((λ h. refl), (λ h. refl)) i s e;
+    one_function = λ i j s t a b h. at_either (λ i s. s.function ≡ 4) refl refl i s a ∙ sym (at_either (λ j t. t.function ≡ 4) refl refl j t b);
     entered = λ i s e. (0, enters, omega arith, refl, sym (at_either (λ i s. s.activation ≡ 0) refl refl i s e), refl);
     enters_first = λ i j s t a b h. at_either (λ i s. IsTrue (is_enter s.action) → (i ≤ j) × (IsTrue (is_enter t.action) → i ≡ j))
         (λ e. (omega arith, λ f. at_either (λ j t. IsTrue (is_enter t.action) → 0 ≡ j) (λ f. refl) (λ f. absurd (true_is_not_false f)) j t b f))
@@ -170,8 +170,8 @@ argument_held : IsTraced with_parameter (two_enters (open_with seven))
 argument_held = record {
   each = at_both (λ i s. IsStepOf with_parameter s) main_fits ignore_fits;
   first = λ s e. at_both (λ i s. s.activation ≡ i) refl refl 0 s e;
-  main_alone = λ i s e. at_both (λ i s. ((s.activation ≡ 0) → (s.function ≡ 3)) × ((s.function ≡ 3) → (s.activation ≡ 0))) ((λ h. refl), (λ h. refl)) ((λ h. absurd (omega arith)), (λ h. absurd (omega arith))) i s e;
-  one_function = λ i j s t a b h. let m : s.function + s.activation ≡ 3 = at_both (λ i s. s.function + s.activation ≡ 3) refl refl i s a in let n : t.function + t.activation ≡ 3 = at_both (λ i s. s.function + s.activation ≡ 3) refl refl j t b in omega arith;
+  main_alone = λ i s e. at_both (λ i s. ((s.activation ≡ 0) → (s.function ≡ 5)) × ((s.function ≡ 5) → (s.activation ≡ 0))) ((λ h. refl), (λ h. refl)) ((λ h. absurd (omega arith)), (λ h. absurd (omega arith))) i s e;
+  one_function = λ i j s t a b h. let m : s.function + s.activation ≡ 5 = at_both (λ i s. s.function + s.activation ≡ 5) refl refl i s a in let n : t.function + t.activation ≡ 5 = at_both (λ i s. s.function + s.activation ≡ 5) refl refl j t b in omega arith;
   entered = λ i s e. (i, s, omega arith, e, refl, at_both (λ i s. IsTrue (is_enter s.action)) refl refl i s e);
   enters_first = λ i j s t a b h e. let m : s.activation ≡ i = at_both (λ i s. s.activation ≡ i) refl refl i s a in let n : t.activation ≡ j = at_both (λ i s. s.activation ≡ i) refl refl j t b in (omega arith, λ f. omega arith);
   returns_last = λ i j s t a b h e. absurd (at_both (λ i s. IsTrue (is_return s.action) → ⊥) true_is_not_false true_is_not_false i s a e);

@@ -25,7 +25,7 @@ use Rattle.step_meaning.specs.ExpressionTypes.{pointer_to}
 use Rattle.step_meaning.specs.Identifiers.{keywords, is_keyword}
 use Rattle.step_meaning.specs.InitialValues.{IsAddressConstant, itself, in_member}
 use Rattle.step_meaning.specs.WellFormed.{IsWellFormed, IsWellFormedFunction}
-use Rattle.step_meaning.proofs.Examples.{int, lit, global, local, load, deref, assign, binary, convert, compare, return}
+use Rattle.step_meaning.proofs.Examples.{declared, int, lit, global, local, load, deref, assign, binary, convert, compare, return}
 
 -- ---- parts of programs
 
