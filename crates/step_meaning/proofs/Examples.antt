@@ -93,7 +93,7 @@ invoke f = e.Invoke' f [] end_of-Expr
 abbrev pub return : Expr → Stmt
 return a = s.Return (Some a)
 
--- `getchar` and `putchar` have the numbers 0 and 1
+-- one of `getchar`, `putchar`, `malloc` and `free`, which have the numbers 0 to 3
 abbrev pub library : Function
 library = record { name = []; result = int; params = 0; locals = []; registers = []; ghosts = []; body = None }
 

@@ -31,6 +31,7 @@ pub mod TypedCalls
 pub mod FormedFunctions
 pub mod AnnotationExamples
 pub mod FoldExamples
+pub mod HeapExamples
 pub mod FitExamples
 pub mod IntervalEnds
 pub mod ValuesInside

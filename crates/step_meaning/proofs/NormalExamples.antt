@@ -23,7 +23,7 @@ use Rattle.step_meaning.proofs.WellFormedExamples.{named, getchar, putchar, mall
 
 -- ---- statements, where r and s are registers
 
-abbrev register : ℕ → Place_
+abbrev pub register : ℕ → Place_
 register i = p.Own (record { kind = names.Register; index = i })
 
 abbrev r : Expr
