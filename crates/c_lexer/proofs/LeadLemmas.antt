@@ -6,7 +6,7 @@ use Rattle.std.proofs.lemmas.Bool.Decides.{nat_tests}
 use Rattle.c_lexer.specs.declared.profile.Profile.{Profile}
 use Rattle.c_lexer.specs.declared.profile.Profile.TheVariants as profile
 use Rattle.c_lexer.specs.Bytes.{is_digit, is_letter}
-use Rattle.c_lexer.specs.FirstTokens.{is_identifier, is_number, is_backslash_word}
+use Rattle.c_lexer.specs.Spellings.{is_identifier, is_number, is_backslash_word}
 use Rattle.c_lexer.specs.Lexemes.{Shape, word, number, character, backslash, directive, string, mark, is_specification, is_annotation, is_ya, is_character, is_string, is_directive, c_marks, further_marks, is_mark, is_lexeme, Begins, BeginsOnly}
 use Rattle.c_lexer.proofs.ListLemmas.{both, left, right, either, apart, among}
 use Rattle.c_lexer.proofs.TokenLemmas.{starts}

@@ -6,7 +6,7 @@ use Rattle.std.proofs.lemmas.Bool.Decides.{nat_tests}
 use Rattle.std.proofs.lemmas.List.{length-take-le, get_or-take}
 use Rattle.c_lexer.specs.declared.profile.Profile.{Profile}
 use Rattle.c_lexer.specs.Bytes.{is_digit, is_letter, is_word, is_number_part}
-use Rattle.c_lexer.specs.FirstTokens.{is_identifier, is_number, is_backslash_word}
+use Rattle.c_lexer.specs.Spellings.{is_identifier, is_number, is_backslash_word}
 use Rattle.c_lexer.specs.Lexemes.{Shape, word, number, character, backslash, is_specification, is_plain, is_escape, is_plain_character, is_escaped_character, is_character, is_lexeme, IsRangeAt, HasNoRange, Begins, IsLongest}
 use Rattle.c_lexer.proofs.ListLemmas.{both, left, right, apart, IsRun, IsRun-take_while, IsRun-some}
 use Rattle.c_lexer.proofs.TokenLemmas.{identifier_words, number_parts, digit_part}

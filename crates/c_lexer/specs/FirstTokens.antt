@@ -7,27 +7,14 @@ use Rattle.c_lexer.specs.declared.token.TokenKind.{TokenKind}
 use Rattle.c_lexer.specs.declared.token.TokenKind.TheVariants as kind
 use Rattle.c_lexer.specs.declared.token.IntSuffix.TheVariants as suffix
 use Rattle.c_lexer.specs.declared.token.Token.{Token}
-use Rattle.c_lexer.specs.Bytes.{is_blank, is_digit, is_letter, is_word, is_number_part, is_between, is_keyword}
+use Rattle.c_lexer.specs.Bytes.{is_blank, is_digit, is_between, is_keyword}
+use Rattle.c_lexer.specs.Spellings.{is_identifier, is_number, is_backslash_word}
 use Rattle.c_lexer.specs.declared.position.Position.{Position}
 use Rattle.c_lexer.specs.Positions.{start, step, after, place_of}
 
 unfoldable pub punctuation : List (List ℕ)
 punctuation =
     codes ";" ∷ codes "," ∷ codes "(" ∷ codes ")" ∷ codes "{" ∷ codes "}" ∷ codes "=" ∷ codes "&" ∷ codes ":" ∷ codes "/*@" ∷ codes "*/" ∷ []
-
--- a letter and then letters and digits
-unfoldable pub is_identifier : List ℕ → Bool
-is_identifier [] = false
-is_identifier (c ∷ cs) = is_letter c && list_all is_word cs
-
--- a preprocessing number (C11 6.4.8, in the profile without `.` before the first digit and without exponent signs)
-unfoldable pub is_number : List ℕ → Bool
-is_number [] = false
-is_number (c ∷ cs) = is_digit c && list_all is_number_part cs
-
-unfoldable pub is_backslash_word : List ℕ → Bool
-is_backslash_word [] = false
-is_backslash_word (c ∷ cs) = c == 92 && is_identifier cs
 
 -- the spellings of each kind of token
 unfoldable pub is_token : TokenKind → List ℕ → Bool

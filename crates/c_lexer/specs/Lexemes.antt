@@ -6,7 +6,7 @@ use Rattle.std.specs.Str.{bytes_eq}
 use Rattle.c_lexer.specs.declared.profile.Profile.{Profile}
 use Rattle.c_lexer.specs.declared.profile.Profile.TheVariants as profile
 use Rattle.c_lexer.specs.Bytes.{is_between, is_word}
-use Rattle.c_lexer.specs.FirstTokens.{is_identifier, is_number, is_backslash_word}
+use Rattle.c_lexer.specs.Spellings.{is_identifier, is_number, is_backslash_word}
 
 -- the sorts of lexemes
 pub data Shape : Type 0 where

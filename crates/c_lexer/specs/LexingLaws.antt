@@ -7,7 +7,7 @@ use Rattle.c_lexer.specs.declared.profile.Profile.{Profile}
 use Rattle.c_lexer.specs.declared.fault.LexFault.{LexFault}
 use Rattle.c_lexer.specs.declared.position.Position.{Position}
 use Rattle.c_lexer.specs.Bytes.{is_keyword}
-use Rattle.c_lexer.specs.FirstTokens.{is_identifier, is_backslash_word}
+use Rattle.c_lexer.specs.Spellings.{is_identifier, is_backslash_word}
 use Rattle.c_lexer.specs.Numbers.{number_of}
 use Rattle.c_lexer.specs.Lexemes.{is_character, is_string, is_directive, is_mark}
 use Rattle.c_lexer.specs.Comments.{first_word, kind_by_word}

@@ -1,4 +1,5 @@
 pub mod Bytes
+pub mod Spellings
 pub mod Positions
 pub mod FirstTokens
 pub mod Fronts

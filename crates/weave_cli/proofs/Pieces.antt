@@ -3,7 +3,8 @@ use Rattle.std.proofs.Common.{◌≡◌, ℕ, ℤ, true, List, ◌∷◌, ◌++�
 use Rattle.std.specs.Prelude.{codes}
 use Rattle.std.specs.Fmt.{signed_decimal}
 use Rattle.c_lexer.specs.Bytes.{is_keyword, keywords}
-use Rattle.c_lexer.specs.FirstTokens.{is_token, is_identifier, is_decimal}
+use Rattle.c_lexer.specs.FirstTokens.{is_token, is_decimal}
+use Rattle.c_lexer.specs.Spellings.{is_identifier}
 use Rattle.c_lexer.proofs.TokenLemmas.{lead}
 use Rattle.c_parser.specs.Spelling.{Word, named, mark, backslash, number, declaration_words}
 use Rattle.c_parser.specs.FirstForm.{is_name}

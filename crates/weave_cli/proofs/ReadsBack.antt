@@ -4,7 +4,8 @@ use Rattle.std.specs.Prelude.{codes}
 use Rattle.std.specs.List.{AllByRecursion, flat_map}
 use Rattle.std.proofs.lemmas.List.{map-append}
 use Rattle.c_lexer.specs.Bytes.{is_keyword, keywords}
-use Rattle.c_lexer.specs.FirstTokens.{is_token, is_identifier}
+use Rattle.c_lexer.specs.FirstTokens.{is_token}
+use Rattle.c_lexer.specs.Spellings.{is_identifier}
 use Rattle.c_lexer.specs.Positions.{after}
 use Rattle.c_lexer.proofs.ListLemmas.{left}
 use Rattle.c_grammar.specs.declared.word.Mode.TheVariants as mode

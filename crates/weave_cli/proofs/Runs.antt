@@ -9,7 +9,8 @@ use Rattle.std.specs.List.{list_all, prefix_len, take_while}
 use Rattle.c_lexer.specs.declared.token.TokenKind.TheVariants as kind
 use Rattle.c_lexer.specs.declared.token.IntSuffix.TheVariants as suffix
 use Rattle.c_lexer.specs.Bytes.{is_digit, is_letter, is_word, is_number_part, is_between, is_keyword}
-use Rattle.c_lexer.specs.FirstTokens.{is_token, is_allowed, is_identifier, is_decimal, IsLongest}
+use Rattle.c_lexer.specs.FirstTokens.{is_token, is_allowed, is_decimal, IsLongest}
+use Rattle.c_lexer.specs.Spellings.{is_identifier}
 use Rattle.c_lexer.proofs.ListLemmas.{both, left, right, not_true, list_all_weaker}
 use Rattle.c_lexer.proofs.TokenLemmas.{keyword_identifier, identifier_words, digit_part}
 use Rattle.c_lexer.proofs.FrontLemmas.{keyword_stands, name_stands, number_stands, backslash_stands}
