@@ -10,15 +10,15 @@ use Rattle.std.proofs.lemmas.Slice.Eq.{bytes_eq-Decides}
 use Rattle.c_lexer.specs.declared.token.TokenKind.{TokenKind}
 use Rattle.c_lexer.specs.declared.token.TokenKind.TheVariants as kind
 use Rattle.c_lexer.specs.declared.token.IntSuffix.TheVariants as suffix
-use Rattle.c_lexer.specs.declared.front.Front.{Front}
-use Rattle.c_lexer.specs.declared.front.Front.TheVariants as front
+use Rattle.c_lexer.specs.declared.first_form.front.Front.{Front}
+use Rattle.c_lexer.specs.declared.first_form.front.Front.TheVariants as front
 use Rattle.c_lexer.specs.Bytes.{is_blank, is_digit, is_letter, is_word, is_number_part, is_keyword}
-use Rattle.c_lexer.specs.FirstTokens.{punctuation, is_decimal, is_token, is_allowed, IsLongest}
+use Rattle.c_lexer.specs.FirstForm.Tokens.{punctuation, is_decimal, is_token, is_allowed, IsLongest}
 use Rattle.c_lexer.specs.Spellings.{is_identifier, is_number, is_backslash_word}
-use Rattle.c_lexer.specs.Fronts.{Stands, Reaches}
+use Rattle.c_lexer.specs.FirstForm.Fronts.{Stands, Reaches}
 use Rattle.c_lexer.proofs.ListLemmas.{both, left, right, either, apart, among, IsRun, IsRun-take_while, IsRun-some}
 use Rattle.c_lexer.proofs.TokenLemmas.{lead, letter, digit, backslash, mark, lead_letter, lead_digit, lead_backslash, lead_mark, shape, starts, token_some, identifier_words, number_parts, letter_word, digit_part}
-use Rattle.c_lexer.proofs.FirstTokenLemmas.{text_shape, one_token, longest_some, from_other}
+use Rattle.c_lexer.proofs.FirstForm.TokenLemmas.{text_shape, one_token, longest_some, from_other}
 
 -- ---- the words that begin as the text does
 

@@ -1,10 +1,8 @@
 pub mod ListLemmas
 pub mod TokenLemmas
-pub mod FirstTokenLemmas
+pub mod FirstForm
 pub mod FrontLemmas
 pub mod PositionLemmas
-pub mod FoundLemmas
-pub mod FirstTokenLaws
 pub mod LeadLemmas
 pub mod LongestLemmas
 pub mod PieceLemmas

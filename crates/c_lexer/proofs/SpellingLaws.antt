@@ -27,7 +27,7 @@ use Rattle.c_lexer.specs.LexingLaws as law
 use Rattle.c_lexer.specs.LexingLaws.{IsSpelled, IsTokenIn}
 use Rattle.c_lexer.proofs.ListLemmas.{right}
 use Rattle.c_lexer.proofs.PositionLemmas.{step-offset, after-offset}
-use Rattle.c_lexer.proofs.FirstTokenLaws.{AllPairs-cons, AllPairs-nil, AllByRecursion-weaker}
+use Rattle.c_lexer.proofs.FirstForm.TokenLaws.{AllPairs-cons, AllPairs-nil, AllByRecursion-weaker}
 use Rattle.c_lexer.proofs.OpeningLemmas.{reaches_of}
 
 -- ---- the bytes of a token

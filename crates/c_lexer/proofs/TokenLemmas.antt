@@ -7,7 +7,7 @@ use Rattle.c_lexer.specs.declared.token.TokenKind.{TokenKind}
 use Rattle.c_lexer.specs.declared.token.TokenKind.TheVariants as kind
 use Rattle.c_lexer.specs.declared.token.IntSuffix.TheVariants as suffix
 use Rattle.c_lexer.specs.Bytes.{is_between, is_digit, is_letter, is_word, is_number_part, is_keyword, keywords}
-use Rattle.c_lexer.specs.FirstTokens.{punctuation, is_decimal, is_token}
+use Rattle.c_lexer.specs.FirstForm.Tokens.{punctuation, is_decimal, is_token}
 use Rattle.c_lexer.specs.Spellings.{is_identifier, is_number, is_backslash_word}
 use Rattle.c_lexer.proofs.ListLemmas.{both, left, right, not_true, among, list_all_weaker}
 

@@ -1,9 +1,7 @@
 pub mod Bytes
 pub mod Spellings
 pub mod Positions
-pub mod FirstTokens
-pub mod Fronts
-pub mod TokenLaws
+pub mod FirstForm
 pub mod Lexemes
 pub mod Numbers
 pub mod Comments

@@ -1,20 +1,15 @@
-//! Concrete trees of C, and their readers.
+//! Concrete trees of C, and their reader. The first form stands in a folder of its own.
 #![tactic(auto)]
 
-mod fault;
 mod first_form;
-mod fixed;
 mod item;
-mod lexeme;
 mod look;
-mod names;
 mod program;
-mod reader;
-mod scope;
-mod statement;
-mod tree;
 
+pub use c_grammar::fault::ParseFault;
+pub use c_grammar::program::ProgramTree;
 pub use c_grammar::word::Mode;
-pub use first_form::{first_tree, one_program};
+pub use first_form::{
+    FirstFunction, FirstProperty, FirstStmt, FirstTree, first_tree, one_program,
+};
 pub use program::{one_tree, parse_program};
-pub use tree::{FirstFunction, FirstProperty, FirstStmt, FirstTree};

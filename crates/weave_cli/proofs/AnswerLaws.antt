@@ -5,12 +5,12 @@ use Rattle.std.proofs.lemmas.List.{length-replicate}
 use Rattle.std.specs.declared.alloc.AllocError.{AllocError}
 use Rattle.weave_base.specs.Contents.{File, bytes_of}
 use Rattle.c_lexer.specs.declared.token.Token.{Token}
-use Rattle.c_lexer.specs.FirstTokens.{AreTokensOf}
-use Rattle.c_lexer.proofs.FirstTokenLaws.{one_token_list}
-use Rattle.c_parser.specs.declared.tree.FirstTree.{FirstTree}
+use Rattle.c_lexer.specs.FirstForm.Tokens.{AreTokensOf}
+use Rattle.c_lexer.proofs.FirstForm.TokenLaws.{one_token_list}
+use Rattle.c_parser.specs.declared.first_form.tree.FirstTree.{FirstTree}
 use Rattle.c_grammar.specs.declared.word.Mode.TheVariants as mode
-use Rattle.c_parser.specs.Program.{Program}
-use Rattle.c_parser.specs.FirstForm.{Spells}
+use Rattle.c_parser.specs.FirstForm.Program.{Program}
+use Rattle.c_parser.specs.FirstForm.Texts.{Spells}
 use Rattle.weave_cli.specs.Answers.{IsFirstProgram}
 
 long_list : (n : ℕ) → 262144 < n → (text : List ℕ) × (262144 < length text)

@@ -5,11 +5,11 @@ use Rattle.weave_base.specs.declared.status.Status.TheVariants as status
 use Rattle.weave_base.specs.Causes.{Rose}
 use Rattle.weave_base.specs.Contents.{File, bytes_of}
 use Rattle.c_grammar.specs.declared.word.Mode.TheVariants as mode
-use Rattle.c_parser.specs.Program.{Program}
-use Rattle.c_parser.specs.FirstForm.{IsTextOf}
-use Rattle.weave_cli.specs.FirstTask.{IsWeavingOf}
-use Rattle.weave_cli.specs.Weaving.{woven}
-use Rattle.weave_cli.specs.Layout.{program_text}
+use Rattle.c_parser.specs.FirstForm.Program.{Program}
+use Rattle.c_parser.specs.FirstForm.Texts.{IsTextOf}
+use Rattle.weave_cli.specs.FirstForm.Task.{IsWeavingOf}
+use Rattle.weave_cli.specs.FirstForm.Weaving.{woven}
+use Rattle.weave_cli.specs.FirstForm.Layout.{program_text}
 use Rattle.weave_cli.specs.Commands.{weave_file, usage_line, refusal_line, no_place}
 
 -- a sink before and after a call: what it holds, where it tells it, and its count of faults

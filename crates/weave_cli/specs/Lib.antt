@@ -1,8 +1,5 @@
 pub mod Commands
-pub mod Weaving
-pub mod Layout
-pub mod FirstCore
+pub mod FirstForm
 pub mod Simulation
-pub mod FirstTask
 pub mod Answers
 pub mod Arguments

@@ -6,7 +6,7 @@ ghost use Rattle.weave_base.specs.declared.status.Status.TheVariants as status;
 ghost use Rattle.weave_cli.specs.Commands.{weave_file, usage_line, refusal_line, no_place};
 ghost use Rattle.weave_cli.specs.Answers.{Answers, Told};
 
-use crate::source::woven_text;
+use crate::first_form::woven_text;
 use c_lexer::{Place, Refusal};
 use itoa::Buffer;
 use std::alloc::{AllocError, Global};

@@ -1,7 +1,7 @@
 use Rattle.std.proofs.Common.{◌≤◌, length, refl, ap, Some, Err, ◌∙◌, sym, subst}
 use Rattle.weave_cli.specs.Answers.{IsWovenText, unread, refusal, woven_text, memory, too_long, other_form}
 use Rattle.weave_cli.proofs.AnswerLaws.{long_text}
-use Rattle.weave_cli.proofs.Headline.{weaving_of}
+use Rattle.weave_cli.proofs.FirstForm.Headline.{weaving_of}
 use Rattle.weave_cli.proofs.tool.weave_file_to.Goals as goal
 
 pub returns-in-Err-Failed-clause-answers : goal.returns-in-Err-Failed-clause-answers

@@ -1,0 +1,4 @@
+-- The first form.
+pub mod TokenLemmas
+pub mod FoundLemmas
+pub mod TokenLaws

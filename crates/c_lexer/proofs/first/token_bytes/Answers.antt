@@ -1,5 +1,0 @@
-use Rattle.c_lexer.proofs.FirstTokenLaws.{one_kind, token_ascii, number_decimal}
-use Rattle.c_lexer.proofs.first.token_bytes.Goals as goal
-
-pub returns : goal.returns
-returns c = record { kind = one_kind; ascii = token_ascii; decimal = number_decimal }

@@ -1,0 +1,4 @@
+-- The first form.
+pub mod Tokens
+pub mod Fronts
+pub mod Laws

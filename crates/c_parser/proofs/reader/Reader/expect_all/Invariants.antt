@@ -1,6 +1,0 @@
-use Rattle.std.proofs.Common.{◌≡◌, drop}
-use Rattle.c_parser.specs.Reading as spec
-use Rattle.c_parser.proofs.reader.Reader.expect_all.Given as goal
-
-abbrev pub invariant-loop-word : goal.invariant-loop-word
-invariant-loop-word l = spec.expect_all l.words l.fn.self ≡ spec.expect_all (drop l.word-index l.words) l.self

@@ -1,7 +1,0 @@
-use Rattle.std.proofs.Common.{◌≡◌, map, take}
-use Rattle.c_parser.specs.Program.{function_of}
-use Rattle.weave_cli.specs.Weaving as spec
-use Rattle.weave_cli.proofs.weaving.woven_functions.Given as goal
-
-abbrev pub invariant-loop-function : goal.invariant-loop-function
-invariant-loop-function l = map function_of l.woven.items ≡ map (spec.property_function l.x) (map function_of (take l.function-index l.functions))
