@@ -21,7 +21,7 @@ use Rattle.c_expressions.specs.TypeReading as types
 use Rattle.c_expressions.specs.ExpressionReading.{inner_at, deep, goes_on_choice}
 use Rattle.c_declarations.specs.DeclaratorReading as read
 use Rattle.c_declarations.specs.DeclaratorReading.{begins_direct, begins_declarator, goes_on_declarator}
-use Rattle.c_declarations.proofs.DeclaratorShapes.{shape-Name, shape-Unsized, shape-Paren, shape-Array, direct-Name, direct-Unsized, direct-Paren, direct-Array, declarator-is, unsized-is, direct_cases}
+use Rattle.c_grammar.proofs.DeclaratorShapes.{shape-Name, shape-Unsized, shape-Paren, shape-Array, direct-Name, direct-Unsized, direct-Paren, direct-Array, declarator-is, unsized-is, direct_cases}
 use Rattle.c_expressions.proofs.TypeLaws.{star-Sound, star-Complete, star-word}
 use Rattle.c_expressions.proofs.ExpressionLaws.{exact}
 use Rattle.c_declarations.specs.Brackets.{bracketed}

@@ -23,7 +23,7 @@ use Rattle.c_expressions.specs.ExpressionReading.{inner_at, begins_expression, g
 use Rattle.c_declarations.specs.DeclaratorReading.{declarator_from, begins_declarator, goes_on_declarator}
 use Rattle.c_declarations.specs.DeclaredReading as read
 use Rattle.c_declarations.specs.DeclaredReading.{goes_on_declared}
-use Rattle.c_declarations.proofs.DeclaratorShapes.{init-Value, init-Braces, init_cases}
+use Rattle.c_grammar.proofs.DeclaratorShapes.{init-Value, init-Braces, init_cases}
 use Rattle.c_declarations.proofs.DeclaratorLaws.{Kept, kept_any, deep-inside, deep-gives, declarator-takes, declarator-gives, declarator-Starts}
 use Rattle.c_expressions.proofs.ExpressionLaws.{exact, assign-Starts}
 

@@ -1,4 +1,3 @@
-pub mod DeclaratorShapes
 pub mod NestingLaws
 pub mod BracketLaws
 pub mod DeclaratorLaws

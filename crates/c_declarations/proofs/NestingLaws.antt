@@ -13,7 +13,7 @@ use Rattle.c_grammar.specs.Written.{Written, nothing, ◌then◌, one_of, nested
 use Rattle.c_grammar.specs.Types.{star, consts, stars_before}
 use Rattle.c_grammar.specs.Expressions.{choice}
 use Rattle.c_grammar.specs.Declarations.{array_of, direct_shape, direct, declarator, is_unsized, sizes}
-use Rattle.c_declarations.proofs.DeclaratorShapes.{shape-Name, shape-Unsized, shape-Paren, shape-Array, direct-Name, direct-Unsized, direct-Paren, direct-Array, declarator-is, unsized-is, sizes-Unsized, sizes-First, sizes-More}
+use Rattle.c_grammar.proofs.DeclaratorShapes.{shape-Name, shape-Unsized, shape-Paren, shape-Array, direct-Name, direct-Unsized, direct-Paren, direct-Array, declarator-is, unsized-is, sizes-Unsized, sizes-First, sizes-More}
 
 -- ---- stars
 

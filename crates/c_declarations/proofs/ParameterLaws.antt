@@ -30,7 +30,7 @@ use Rattle.c_expressions.specs.TypeReading.{stars_from, begins_type, goes_on_bas
 use Rattle.c_expressions.proofs.TypeLaws.{consts-Sound, consts-Complete, base-Sound, base-Complete, base-Starts, star-word, stars_from-takes, stars-Sound, stars-Complete, stars_reach, before_append, goes_on_stars}
 use Rattle.c_declarations.specs.DeclaratorReading.{declarator_from, begins_direct, goes_on_declarator}
 use Rattle.c_declarations.specs.ParameterReading as read
-use Rattle.c_declarations.proofs.DeclaratorShapes.{declarator-is}
+use Rattle.c_grammar.proofs.DeclaratorShapes.{declarator-is}
 use Rattle.c_declarations.proofs.DeclaratorLaws.{kept_any, declarator_from-takes, declarator_from-gives, direct-Starts}
 use Rattle.c_declarations.proofs.DeclaredLaws.{Takes-only, only-Takes}
 use Rattle.c_declarations.proofs.SizesLaws.{sizes-Sound, sizes-Complete, sizes-word}

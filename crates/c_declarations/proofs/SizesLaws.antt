@@ -17,7 +17,7 @@ use Rattle.c_grammar.proofs.Reading.{finish, after-one, word_is, bind_ok, gives_
 use Rattle.c_expressions.specs.ExpressionReading.{inner_at}
 use Rattle.c_declarations.specs.DeclaratorReading.{goes_on_declarator}
 use Rattle.c_declarations.specs.ParameterReading as read
-use Rattle.c_declarations.proofs.DeclaratorShapes.{sizes-Unsized, sizes-First, sizes-More, sizes_cases}
+use Rattle.c_grammar.proofs.DeclaratorShapes.{sizes-Unsized, sizes-First, sizes-More, sizes_cases}
 use Rattle.c_expressions.proofs.ExpressionLaws.{exact}
 use Rattle.c_declarations.specs.Brackets.{bracketed}
 use Rattle.c_declarations.proofs.BracketLaws.{bracket_of, bracketed-Sound, bracketed-gives, bracket-second}

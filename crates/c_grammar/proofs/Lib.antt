@@ -7,3 +7,5 @@ pub mod ExpressionShapes
 pub mod WordTables
 pub mod LeafLaws
 pub mod Turns
+pub mod DeclaratorShapes
+pub mod DeclaratorNesting

@@ -7,6 +7,7 @@ pub mod declaration;
 pub mod expression;
 pub mod fault;
 pub mod leaf;
+pub mod measured;
 pub mod operators;
 pub mod program;
 pub mod statement;

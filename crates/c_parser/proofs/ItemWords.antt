@@ -27,7 +27,7 @@ use Rattle.c_grammar.specs.Parsing.{Leaves, word_at, after}
 use Rattle.c_grammar.proofs.Taking.{nothing-Takes, Takes-then, then-Takes, one-Takes, both, first_of_both, second_of_both}
 use Rattle.c_grammar.proofs.Reading.{after-one, take_if-word, word_is, Starts}
 use Rattle.c_declarations.specs.DeclaratorReading.{begins_direct, begins_declarator}
-use Rattle.c_declarations.proofs.DeclaratorShapes.{direct_cases, direct-Name, direct-Unsized, direct-Paren, direct-Array, declarator-is}
+use Rattle.c_grammar.proofs.DeclaratorShapes.{direct_cases, direct-Name, direct-Unsized, direct-Paren, direct-Array, declarator-is}
 use Rattle.c_expressions.specs.TypeReading.{begins_integer, begins_type}
 use Rattle.c_expressions.proofs.TypeLaws.{integer-Starts, base-Starts, star-word}
 use Rattle.c_parser.specs.ItemReading as read
