@@ -125,7 +125,7 @@ pub shape-SizeOf : (t : Leaf) (x : Unary) → unary_shape (u.SizeOf t x) ≡ rec
 unfolding unary_shape unary unary_step is_cast
 shape-SizeOf t x = ap unary_shape (sym (u.rolls-SizeOf t x)) ∙ fold-roll-Unary _ _ _ _ _ _ _ _ _ _ _ _ _ _ _ _ assign_step choice_step primary_step suffix_step unary_step and_step bit_and_step bit_or_step bit_xor_step equal_step or_step postfix_step product_step relation_step shift_step sum_step (Unary-F.SizeOf t x)
 
-pub shape-SizeOfType : (t : Leaf) (l : Leaf) (y : TypeName) (r : Leaf) → unary_shape (u.SizeOfType t l y r) ≡ record { written = one w.SizeOf t then nested (one w.LeftParen l then nested (type_name y) then one w.RightParen r); cast = false }
+pub shape-SizeOfType : (t : Leaf) (l : Leaf) (y : TypeName) (r : Leaf) → unary_shape (u.SizeOfType t l y r) ≡ record { written = one w.SizeOf t then one w.LeftParen l then nested (type_name y) then one w.RightParen r; cast = false }
 unfolding unary_shape unary unary_step
 shape-SizeOfType t l y r = ap unary_shape (sym (u.rolls-SizeOfType t l y r)) ∙ fold-roll-Unary _ _ _ _ _ _ _ _ _ _ _ _ _ _ _ _ assign_step choice_step primary_step suffix_step unary_step and_step bit_and_step bit_or_step bit_xor_step equal_step or_step postfix_step product_step relation_step shift_step sum_step (Unary-F.SizeOfType t l y r)
 
@@ -145,7 +145,7 @@ pub unary-SizeOf : (t : Leaf) (x : Unary) → unary (u.SizeOf t x) ≡ one w.Siz
 unfolding unary
 unary-SizeOf t x = ap (λ s. s.written) (shape-SizeOf t x)
 
-pub unary-SizeOfType : (t : Leaf) (l : Leaf) (y : TypeName) (r : Leaf) → unary (u.SizeOfType t l y r) ≡ one w.SizeOf t then nested (one w.LeftParen l then nested (type_name y) then one w.RightParen r)
+pub unary-SizeOfType : (t : Leaf) (l : Leaf) (y : TypeName) (r : Leaf) → unary (u.SizeOfType t l y r) ≡ one w.SizeOf t then one w.LeftParen l then nested (type_name y) then one w.RightParen r
 unfolding unary
 unary-SizeOfType t l y r = ap (λ s. s.written) (shape-SizeOfType t l y r)
 

@@ -109,8 +109,7 @@ suffix_step (Suffix-F.Arrow arrow name) = one w.Arrow arrow then one w.Name name
 suffix_step (Suffix-F.Increment operator) = one w.Increment operator
 suffix_step (Suffix-F.Decrement operator) = one w.Decrement operator
 
--- The operand of `sizeof` is no cast: after it, a type in parentheses stands alone (C11 6.5.3). A type in parentheses is an operand of it,
--- so it nests as any operand does, and the parentheses nest what stands in them.
+-- The operand of `sizeof` is no cast: after it, a type in parentheses stands alone (C11 6.5.3). The parentheses nest the type, as those of a cast do.
 unfoldable pub unary_step : Unary-F Written Written Written Written OperandShape Written Written Written Written Written Written Written Written Written Written Written → OperandShape
 unary_step (Unary-F.Postfix a) = no_cast a
 unary_step (Unary-F.Prefix operator operand) = no_cast (one_of is_prefix_operator operator then nested operand.written)
@@ -120,7 +119,7 @@ unary_step (Unary-F.Cast opening type closing operand) = record {
 }
 unary_step (Unary-F.SizeOf first operand) = no_cast (one w.SizeOf first then nested operand.written then only (not operand.cast))
 unary_step (Unary-F.SizeOfType first opening type closing) =
-    no_cast (one w.SizeOf first then nested (one w.LeftParen opening then nested (type_name type) then one w.RightParen closing))
+    no_cast (one w.SizeOf first then one w.LeftParen opening then nested (type_name type) then one w.RightParen closing)
 
 unfoldable pub postfix_step : Postfix-F Written Written Written Written OperandShape Written Written Written Written Written Written Written Written Written Written Written → Written
 postfix_step a = a.primary then run written a.suffixes
