@@ -5,7 +5,7 @@ pub mod bracket;
 pub mod declarator;
 pub mod declared;
 pub mod exactness;
-pub mod fits;
+mod deepest;
 pub mod init;
 pub mod parameter;
 pub mod sizes;

@@ -1,39 +1,49 @@
 //! The sizes of a parameter without name.
 
-ghost use Rattle.std.specs.Prelude.{◌≡◌};
+ghost use Rattle.std.specs.Prelude.{◌≡◌, ◌<◌};
+ghost use Rattle.c_grammar.specs.Declarations as grammar;
 ghost use Rattle.c_grammar.specs.Parsing.{Reads};
 ghost use Rattle.c_expressions.specs.Held.{ReadsAfter};
 ghost use Rattle.c_declarations.specs.ParameterReading as spec;
 
 use crate::bracket::{bracketed, then_bracketed};
-use crate::fits::sizes_fit;
+use crate::deepest::deepest;
 use c_grammar::cursor::{Cursor, same};
 use c_grammar::declaration::Sizes;
 use c_grammar::fault::ParseFault;
+use c_grammar::measured::MeasuredSizes;
 use c_grammar::word::Word;
-use sqlite_items::Boxed;
 use std::alloc::Global;
 
 #[tactic(auto, unfolding(crate::specs::ParameterReading::empty_size))]
-fn empty_size(tokens: &mut Cursor<'_>) -> Result<Sizes, ParseFault>
+fn empty_size(tokens: &mut Cursor<'_>) -> Result<MeasuredSizes, ParseFault>
     ensures { Reads (spec.empty_size tokens.old) result tokens.new }
 {
     let open = tokens.expect(Word::LeftBracket)?;
     let close = tokens.expect(Word::RightBracket)?;
-    Ok(Sizes::Unsized(open, close))
+    Ok(MeasuredSizes::empty(open, close))
 }
 
 #[tactic(auto, unfolding(crate::specs::ParameterReading::some_size))]
-fn some_size(alloc: Global, tokens: &mut Cursor<'_>, inside: usize) -> Result<Sizes, ParseFault>
+fn some_size(
+    alloc: Global,
+    tokens: &mut Cursor<'_>,
+    inside: usize,
+) -> Result<MeasuredSizes, ParseFault>
     ensures { Reads (spec.some_size inside tokens.old) result tokens.new }
 {
     let bracket = bracketed(alloc, tokens, inside)?;
-    Ok(Sizes::First(bracket.left, bracket.size, bracket.right))
+    let inner = deepest(0, &bracket.size, inside);
+    Ok(MeasuredSizes::first(bracket.left, bracket.size, bracket.right, inner))
 }
 
 /// The first size, which may be empty.
 #[tactic(auto, unfolding(crate::specs::ParameterReading::first_size))]
-fn first_size(alloc: Global, tokens: &mut Cursor<'_>, inside: usize) -> Result<Sizes, ParseFault>
+fn first_size(
+    alloc: Global,
+    tokens: &mut Cursor<'_>,
+    inside: usize,
+) -> Result<MeasuredSizes, ParseFault>
     ensures { Reads (spec.first_size inside tokens.old) result tokens.new }
 {
     if same(Word::RightBracket, tokens.second()) {
@@ -43,17 +53,28 @@ fn first_size(alloc: Global, tokens: &mut Cursor<'_>, inside: usize) -> Result<S
     }
 }
 
+/// A size after those that were found, which may nest one deeper.
 #[tactic(auto, unfolding(crate::specs::ParameterReading::next_size))]
 fn next_size(
     alloc: Global,
     tokens: &mut Cursor<'_>,
     inside: usize,
-    found: Boxed<Sizes>,
-) -> Result<Sizes, ParseFault>
+    found: MeasuredSizes,
+) -> Result<MeasuredSizes, ParseFault>
+    requires { (grammar.sizes found).nesting < inside }
     ensures { Reads (spec.next_size inside found tokens.old) result tokens.new }
 {
+    let before = found.nesting();
     let (found, bracket) = then_bracketed(found, alloc, tokens, inside)?;
-    Ok(Sizes::More(found, bracket.left, bracket.size, bracket.right))
+    let inner = deepest(before, &bracket.size, inside);
+    Ok(MeasuredSizes::next(
+        alloc,
+        found,
+        bracket.left,
+        bracket.size,
+        bracket.right,
+        inner,
+    )?)
 }
 
 /// The sizes after those that were found, as long as those may nest one deeper.
@@ -61,17 +82,16 @@ fn next_sizes(
     alloc: Global,
     tokens: &mut Cursor<'_>,
     inside: usize,
-    found: Sizes,
-) -> Result<Sizes, ParseFault>
+    found: MeasuredSizes,
+) -> Result<MeasuredSizes, ParseFault>
     ensures { Reads (spec.sizes_from inside inside found tokens.old) result tokens.new }
 {
     let mut found = found;
     for _turn in 0..inside {
-        if !(same(Word::LeftBracket, tokens.peek()) && sizes_fit(&found, inside)) {
+        if !(same(Word::LeftBracket, tokens.peek()) && found.nesting() < inside) {
             return Ok(found);
         }
-        let before = Boxed::new(alloc, found)?;
-        found = next_size(alloc, tokens, inside, before)?;
+        found = next_size(alloc, tokens, inside, found)?;
     }
     Ok(found)
 }
@@ -85,7 +105,8 @@ pub fn sizes(alloc: Global, tokens: &mut Cursor<'_>, depth: usize) -> Result<Siz
         return Err(tokens.refuse());
     }
     let found = first_size(alloc, tokens, depth - 1)?;
-    next_sizes(alloc, tokens, depth - 1, found)
+    let found = next_sizes(alloc, tokens, depth - 1, found)?;
+    Ok(found.into_tree())
 }
 
 /// The same, where `held` was read before.

@@ -69,7 +69,7 @@ impl MeasuredDirect {
     }
 
     /// A declarator in parentheses.
-    #[tactic(auto, using(crate::proofs::DeclaratorNesting::paren_nesting))]
+    #[tactic(auto, using(crate::proofs::DeclaratorNesting::paren_nesting, crate::proofs::DeclaratorNesting::declarator_nesting))]
     pub fn parenthesized(
         alloc: Global,
         left: Leaf,
@@ -79,7 +79,7 @@ impl MeasuredDirect {
         requires { (grammar.declarator inside).nesting < 2 ^ 64 - 1 }
         ensures { IfOk result (λ m. m ≡ d.Paren left inside right) }
     {
-        let nesting = inside.nesting + 1;
+        let nesting = inside.stars.len() + inside.direct.nesting + 1;
         let inside = Boxed::new(alloc, inside.into_tree())?;
         Ok(MeasuredDirect {
             tree: Direct::Paren(left, inside, right),
@@ -128,60 +128,47 @@ impl MeasuredDirect {
 
 /// A declarator, seen as its tree.
 pub struct MeasuredDeclarator {
-    tree: Declarator,
-    nesting: usize,
+    stars: Items<Star>,
+    direct: MeasuredDirect,
 }
 
 impl Model for MeasuredDeclarator {
     ghost use Rattle.c_grammar.specs.declared.declaration.Declarator.{Declarator};
     ghost use Rattle.c_grammar.specs.contracts.declaration.Declarator as declarator;
-    ghost use Rattle.std.specs.Prelude.{◌≡◌};
     ghost use Rattle.std.specs.Coded.{codes};
-    ghost use Rattle.c_grammar.specs.Declarations as grammar;
 
     ghost Value = { Declarator };
 
     ghost coded = { Prim.hlevel (codes, declarator.the_row.coded) };
 
-    ghost view = { λ m. m.tree };
-
-    ghost invariant = { λ m. m.nesting ≡ (grammar.declarator m.tree).nesting };
+    ghost view = { λ m. record { stars = m.stars; direct = m.direct } };
 }
 
 impl Drop for MeasuredDeclarator {
     fn drop(self) {
         let MeasuredDeclarator {
-            tree: _tree,
-            nesting: _nesting,
+            stars: _stars,
+            direct: _direct,
         } = self;
     }
 }
 
 impl MeasuredDeclarator {
     /// Stars, and what they stand before.
-    #[tactic(auto, using(crate::proofs::DeclaratorNesting::declarator_nesting))]
     pub fn new(stars: Items<Star>, direct: MeasuredDirect) -> MeasuredDeclarator
-        requires { length stars + (grammar.direct direct).nesting < 2 ^ 64 }
         ensures { result ≡ record { stars = stars; direct = direct } }
     {
-        let nesting = stars.len() + direct.nesting;
-        MeasuredDeclarator {
-            tree: Declarator {
-                stars,
-                direct: direct.into_tree(),
-            },
-            nesting,
-        }
+        MeasuredDeclarator { stars, direct }
     }
 
     pub fn into_tree(self) -> Declarator
         ensures { result ≡ self }
     {
-        let MeasuredDeclarator {
-            tree,
-            nesting: _nesting,
-        } = self;
-        tree
+        let MeasuredDeclarator { stars, direct } = self;
+        Declarator {
+            stars,
+            direct: direct.into_tree(),
+        }
     }
 }
 
