@@ -3,7 +3,7 @@
 ghost use Rattle.std.specs.Prelude.{◌≡◌, nat_lt};
 ghost use Rattle.c_grammar.specs.Declarations as grammar;
 
-use c_expressions::nesting::choice_fits;
+use c_nesting::nesting::choice_fits;
 use c_grammar::declaration::{Declarator, Direct, Sizes};
 
 #[cycle(fits)]
