@@ -17,12 +17,12 @@ use Rattle.c_grammar.specs.Declarations.{array_of, direct_shape, direct, declara
 use Rattle.c_grammar.specs.Parsing.{Leaves, Outcome, Parser, and_then, word_at, after, take_if, expect}
 use Rattle.c_grammar.proofs.Taking.{Takes-then, then-Takes, Takes-nested, nested-Takes, both, first_of_both, second_of_both}
 use Rattle.c_grammar.proofs.Reading.{after-one, at_one, word_is, bind_ok, gives_bind, chosen, choose, refuse_test, same_pair, Sound, Complete, Ends, Starts, take_if-takes, take_if-gives, take_if-word}
-use Rattle.c_expressions.specs.TypeReading as types
+use Rattle.c_type_names.specs.TypeReading as types
 use Rattle.c_expressions.specs.ExpressionReading.{inner_at, deep, goes_on_choice}
 use Rattle.c_declarations.specs.DeclaratorReading as read
 use Rattle.c_declarations.specs.DeclaratorReading.{begins_direct, begins_declarator, goes_on_declarator}
 use Rattle.c_grammar.proofs.DeclaratorShapes.{shape-Name, shape-Unsized, shape-Paren, shape-Array, direct-Name, direct-Unsized, direct-Paren, direct-Array, declarator-is, unsized-is, direct_cases}
-use Rattle.c_expressions.proofs.TypeLaws.{star-Sound, star-Complete, star-word}
+use Rattle.c_type_names.proofs.TypeLaws.{star-Sound, star-Complete, star-word}
 use Rattle.c_expressions.proofs.ExpressionLaws.{exact}
 use Rattle.c_declarations.specs.Brackets.{bracketed}
 use Rattle.c_declarations.proofs.BracketLaws.{bracket_of, bracketed-Sound, bracketed-gives, bracket-second}

@@ -1,4 +1,4 @@
-pub mod NestingLaws
+pub mod UnsizedLaws
 pub mod BracketLaws
 pub mod DeclaratorLaws
 pub mod DeclaredLaws

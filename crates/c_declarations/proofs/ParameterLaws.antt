@@ -25,9 +25,9 @@ use Rattle.c_grammar.specs.Parsing.{Leaves, Outcome, and_then, pure, word_at, ch
 use Rattle.c_grammar.proofs.Taking.{Takes-nothing, nothing-Takes, Takes-then, then-Takes, Takes-nested, nested-Takes}
 use Rattle.c_grammar.proofs.Reading.{finish, word_is, bind_ok, gives_bind, chosen, choose, refuse_test, first_of_neither, second_of_neither, Sound, Complete, Ends, Starts}
 use Rattle.c_grammar.proofs.Chains.{chain-Sound, chain-Complete, chain-Starts}
-use Rattle.c_expressions.specs.TypeReading as types
-use Rattle.c_expressions.specs.TypeReading.{stars_from, begins_type, goes_on_base, goes_on_type}
-use Rattle.c_expressions.proofs.TypeLaws.{consts-Sound, consts-Complete, base-Sound, base-Complete, base-Starts, star-word, stars_from-takes, stars-Sound, stars-Complete, stars_reach, before_append, goes_on_stars}
+use Rattle.c_type_names.specs.TypeReading as types
+use Rattle.c_type_names.specs.TypeReading.{stars_from, begins_type, goes_on_base, goes_on_type}
+use Rattle.c_type_names.proofs.TypeLaws.{consts-Sound, consts-Complete, base-Sound, base-Complete, base-Starts, star-word, stars_from-takes, stars-Sound, stars-Complete, stars_reach, before_append, goes_on_stars}
 use Rattle.c_declarations.specs.DeclaratorReading.{declarator_from, begins_direct, goes_on_declarator}
 use Rattle.c_declarations.specs.ParameterReading as read
 use Rattle.c_grammar.proofs.DeclaratorShapes.{declarator-is}

@@ -11,7 +11,7 @@ use Rattle.c_grammar.specs.declared.declaration.Direct.TheVariants as d
 use Rattle.c_grammar.specs.Words.{same}
 use Rattle.c_grammar.specs.Parsing.{Parser, ◌>>=◌, pure, refuse, peek, peek_second, expect}
 use Rattle.c_grammar.specs.Declarations as grammar
-use Rattle.c_expressions.specs.TypeReading.{star}
+use Rattle.c_type_names.specs.TypeReading.{star}
 use Rattle.c_expressions.specs.ExpressionReading.{inner_at, deep}
 use Rattle.c_declarations.specs.Brackets.{bracketed}
 

@@ -16,7 +16,7 @@ use Rattle.c_grammar.specs.Expressions.{is_comma}
 use Rattle.c_grammar.specs.Declarations as grammar
 use Rattle.c_grammar.specs.Declarations.{lone_void}
 use Rattle.c_grammar.specs.Parsing.{Parser, ◌>>=◌, ◌<$>◌, pure, refuse, after, peek, peek_second, expect, chain_at}
-use Rattle.c_expressions.specs.TypeReading.{consts, base, stars_from}
+use Rattle.c_type_names.specs.TypeReading.{consts, base, stars_from}
 use Rattle.c_expressions.specs.ExpressionReading.{inner_at}
 use Rattle.c_declarations.specs.Brackets.{bracketed}
 use Rattle.c_declarations.specs.DeclaratorReading.{declarator_from, begins_direct}

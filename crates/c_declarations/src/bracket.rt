@@ -3,10 +3,10 @@
 ghost use Rattle.c_grammar.specs.Parsing.{Reads};
 ghost use Rattle.c_expressions.specs.ExpressionReading.{inner_at};
 ghost use Rattle.c_declarations.specs.Brackets as spec;
-ghost use Rattle.c_expressions.specs.Held.{ReadsAfter};
+ghost use Rattle.c_type_names.specs.Held.{ReadsAfter};
 
 use c_expressions::expression::choice;
-use c_expressions::held::then_expect;
+use c_type_names::held::then_expect;
 use c_grammar::cursor::Cursor;
 use c_grammar::expression::Choice;
 use c_grammar::fault::ParseFault;

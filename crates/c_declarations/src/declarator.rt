@@ -5,12 +5,12 @@ ghost use Rattle.c_grammar.specs.Declarations as grammar;
 ghost use Rattle.c_grammar.specs.Parsing.{Reads};
 ghost use Rattle.c_expressions.specs.ExpressionReading.{inner_at};
 ghost use Rattle.c_declarations.specs.DeclaratorReading as spec;
-ghost use Rattle.c_expressions.specs.Held.{ReadsAfter};
+ghost use Rattle.c_type_names.specs.Held.{ReadsAfter};
 
 use crate::bracket::then_bracketed;
 use crate::deepest::deepest;
-use c_expressions::held::then_expect;
-use c_expressions::types::star;
+use c_type_names::held::then_expect;
+use c_type_names::types::star;
 use c_grammar::cursor::{Cursor, same};
 use c_grammar::declaration::Declarator;
 use c_grammar::fault::ParseFault;

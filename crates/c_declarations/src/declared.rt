@@ -5,12 +5,12 @@ ghost use Rattle.c_grammar.specs.Declarations as grammar;
 ghost use Rattle.c_grammar.specs.Parsing.{Reads};
 ghost use Rattle.c_declarations.specs.DeclaratorReading.{declarator_from};
 ghost use Rattle.c_declarations.specs.DeclaredReading as spec;
-ghost use Rattle.c_expressions.specs.Held.{ReadsAfter};
+ghost use Rattle.c_type_names.specs.Held.{ReadsAfter};
 
 use crate::declarator::declarator;
 use crate::init::then_init;
-use c_expressions::chain::chain;
-use c_expressions::held::{then_expect, unless_refused};
+use c_type_names::chain::{Operand, chain};
+use c_type_names::held::{then_expect, unless_refused};
 use c_grammar::chain::Chain;
 use c_grammar::cursor::{Cursor, same};
 use c_grammar::declaration::{Declarator, Declared, Direct};
@@ -21,7 +21,7 @@ use sqlite_items::Items;
 use std::alloc::Global;
 
 #[cycle(emptiness)]
-#[tactic(auto, using(crate::proofs::NestingLaws::unsized_name, crate::proofs::NestingLaws::unsized_empty, crate::proofs::NestingLaws::unsized_paren, crate::proofs::NestingLaws::unsized_array))]
+#[tactic(auto, using(crate::proofs::UnsizedLaws::unsized_name, crate::proofs::NestingLaws::unsized_empty, crate::proofs::NestingLaws::unsized_paren, crate::proofs::NestingLaws::unsized_array))]
 fn direct_is_unsized(tree: &Direct) -> bool
     ensures { result ≡ (grammar.direct_shape tree.now).unsized }
 {
@@ -35,7 +35,7 @@ fn direct_is_unsized(tree: &Direct) -> bool
 
 /// Whether the `[ ]` right after the name is empty.
 #[cycle(emptiness)]
-#[tactic(auto, using(crate::proofs::NestingLaws::unsized_declarator))]
+#[tactic(auto, using(crate::proofs::UnsizedLaws::unsized_declarator))]
 fn is_unsized(tree: &Declarator) -> bool
     ensures { result ≡ grammar.is_unsized tree.now }
 {
@@ -91,6 +91,33 @@ fn declared(alloc: Global, tokens: &mut Cursor<'_>, depth: usize) -> Result<Decl
     after_declarator(alloc, tokens, depth, found)
 }
 
+/// Reads what is declared, and nests below `depth`.
+#[derive(Clone, Copy)]
+struct DeclaredReader {
+    alloc: Global,
+    depth: usize,
+}
+
+impl Operand<Declared> for DeclaredReader {
+    ghost can_read = { λ _. Unit {0} };
+
+    ghost parser = { λ r. spec.declared r.depth };
+
+    fn operand(&self, tokens: &mut Cursor<'_>) -> Result<Declared, ParseFault> {
+        declared(self.alloc, tokens, self.depth)
+    }
+}
+
+impl Operand<Declarator> for DeclaredReader {
+    ghost can_read = { λ _. Unit {0} };
+
+    ghost parser = { λ r. declarator_from false r.depth [] };
+
+    fn operand(&self, tokens: &mut Cursor<'_>) -> Result<Declarator, ParseFault> {
+        declarator(self.alloc, tokens, false, self.depth, Items::new(self.alloc))
+    }
+}
+
 /// What a declaration declares, one after another, each nesting below `depth`.
 #[tactic(auto, unfolding(crate::specs::DeclaredReading::all_declared))]
 pub fn all_declared(
@@ -100,10 +127,7 @@ pub fn all_declared(
 ) -> Result<Chain<Declared>, ParseFault>
     ensures { Reads (spec.all_declared depth tokens.old) result tokens.new }
 {
-    let operand = |tokens: &mut Cursor<'_>| -> Result<Declared, ParseFault>
-        ensures { Reads (spec.declared depth tokens.old) result tokens.new }
-    { declared(alloc, tokens, depth) };
-    chain(alloc, tokens, Operators::List, &operand)
+    chain(alloc, tokens, Operators::List, &DeclaredReader { alloc, depth })
 }
 
 /// Declarators whose `[ ]` are not empty, one after another, each nesting below `depth`.
@@ -115,10 +139,7 @@ pub fn declarators(
 ) -> Result<Chain<Declarator>, ParseFault>
     ensures { Reads (spec.declarators depth tokens.old) result tokens.new }
 {
-    let operand = |tokens: &mut Cursor<'_>| -> Result<Declarator, ParseFault>
-        ensures { Reads (declarator_from false depth [] tokens.old) result tokens.new }
-    { declarator(alloc, tokens, false, depth, Items::new(alloc)) };
-    chain(alloc, tokens, Operators::List, &operand)
+    chain(alloc, tokens, Operators::List, &DeclaredReader { alloc, depth })
 }
 
 /// What a declaration declares, where `held` was read before.

@@ -3,12 +3,12 @@
 ghost use Rattle.std.specs.Prelude.{◌≡◌};
 ghost use Rattle.c_grammar.specs.Follows.{Nests};
 ghost use Rattle.c_grammar.specs.Parsing.{Reads};
-ghost use Rattle.c_expressions.specs.Held.{ReadsAfter};
+ghost use Rattle.c_type_names.specs.Held.{ReadsAfter};
 ghost use Rattle.c_declarations.specs.DeclaredReading as spec;
 
-use c_expressions::chain::chain;
+use c_type_names::chain::{Operand, chain};
 use c_expressions::expression::assign;
-use c_expressions::held::{then_expect, then_optional};
+use c_type_names::held::{then_expect, then_optional};
 use c_grammar::chain::Chain;
 use c_grammar::cursor::{Cursor, same};
 use c_grammar::declaration::Init;
@@ -18,42 +18,48 @@ use c_grammar::word::Word;
 use sqlite_items::Boxed;
 use std::alloc::Global;
 
-/// The elements between braces, which nest below `inside` and are read by `element`.
-#[tactic(auto, unfolding(crate::specs::DeclaredReading::elements))]
-pub fn elements<I: Fn(Global, &mut Cursor<'_>, usize) -> Result<Init, ParseFault>>(
+/// Reads elements, which nest below `inside`, by `element`.
+#[derive(Clone, Copy)]
+pub struct ElementReader<I> {
     alloc: Global,
-    tokens: &mut Cursor<'_>,
     inside: usize,
-    element: &I,
-) -> Result<Boxed<Chain<Init>>, ParseFault>
-    requires { Nests (spec.init_at inside) inside (I.pre element.now) (I.post element.now) }
-    ensures { Reads (spec.elements (spec.init_at inside) tokens.old) result tokens.new }
-{
-    let operand = |tokens: &mut Cursor<'_>| -> Result<Init, ParseFault>
-        requires { Nests (spec.init_at inside) inside (I.pre element.now) (I.post element.now) }
-        ensures { Reads (spec.init_at inside tokens.old) result tokens.new }
-    { element(alloc, tokens, inside) };
-    let found = chain(alloc, tokens, Operators::Elements, &operand)?;
-    Ok(Boxed::new(alloc, found)?)
+    element: I,
 }
 
-/// Braces and the elements in them.
-#[tactic(auto, unfolding(crate::specs::DeclaredReading::braces))]
-pub fn braces<I: Fn(Global, &mut Cursor<'_>, usize) -> Result<Init, ParseFault>>(
-    alloc: Global,
-    tokens: &mut Cursor<'_>,
-    inside: usize,
-    element: &I,
-) -> Result<Init, ParseFault>
-    requires { Nests (spec.init_at inside) inside (I.pre element.now) (I.post element.now) }
-    ensures { Reads (spec.braces (spec.init_at inside) tokens.old) result tokens.new }
-{
-    let open = tokens.expect(Word::LeftBrace)?;
-    let found = elements(alloc, tokens, inside, element)?;
-    let (found, last) = then_optional(found, tokens, Word::Comma)?;
-    let (held, close) = then_expect((found, last), tokens, Word::RightBrace)?;
-    let (found, last) = held;
-    Ok(Init::Braces(open, found, last, close))
+impl<I: Fn(Global, &mut Cursor<'_>, usize) -> Result<Init, ParseFault>> Operand<Init> for ElementReader<I> {
+    ghost can_read = { λ r. Nests (spec.init_at r.inside) r.inside (I.pre r.element) (I.post r.element) };
+
+    ghost parser = { λ r. spec.init_at r.inside };
+
+    fn operand(&self, tokens: &mut Cursor<'_>) -> Result<Init, ParseFault> {
+        (self.element)(self.alloc, tokens, self.inside)
+    }
+}
+
+impl<I: Fn(Global, &mut Cursor<'_>, usize) -> Result<Init, ParseFault>> ElementReader<I> {
+    /// The elements between braces.
+    #[tactic(auto, unfolding(crate::specs::DeclaredReading::elements))]
+    fn elements(&self, tokens: &mut Cursor<'_>) -> Result<Boxed<Chain<Init>>, ParseFault>
+        requires { Nests (spec.init_at self.now.inside) self.now.inside (I.pre self.now.element) (I.post self.now.element) }
+        ensures { Reads (spec.elements (spec.init_at self.now.inside) tokens.old) result tokens.new }
+    {
+        let found = chain(self.alloc, tokens, Operators::Elements, self)?;
+        Ok(Boxed::new(self.alloc, found)?)
+    }
+
+    /// Braces and the elements in them.
+    #[tactic(auto, unfolding(crate::specs::DeclaredReading::braces))]
+    fn braces(&self, tokens: &mut Cursor<'_>) -> Result<Init, ParseFault>
+        requires { Nests (spec.init_at self.now.inside) self.now.inside (I.pre self.now.element) (I.post self.now.element) }
+        ensures { Reads (spec.braces (spec.init_at self.now.inside) tokens.old) result tokens.new }
+    {
+        let open = tokens.expect(Word::LeftBrace)?;
+        let found = self.elements(tokens)?;
+        let (found, last) = then_optional(found, tokens, Word::Comma)?;
+        let (held, close) = then_expect((found, last), tokens, Word::RightBrace)?;
+        let (found, last) = held;
+        Ok(Init::Braces(open, found, last, close))
+    }
 }
 
 /// An initialiser that nests below `depth`.
@@ -70,7 +76,12 @@ pub fn init(alloc: Global, tokens: &mut Cursor<'_>, depth: usize) -> Result<Init
     if depth == 1 {
         return Err(tokens.refuse());
     }
-    braces(alloc, tokens, depth - 1, &init)
+    ElementReader {
+        alloc,
+        inside: depth - 1,
+        element: init,
+    }
+    .braces(tokens)
 }
 
 /// The same, where `held` was read before.

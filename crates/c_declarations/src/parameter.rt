@@ -5,14 +5,14 @@ ghost use Rattle.c_grammar.specs.Declarations as grammar;
 ghost use Rattle.c_grammar.specs.Parsing.{Reads, chain_at};
 ghost use Rattle.c_grammar.specs.Expressions.{is_comma};
 ghost use Rattle.c_declarations.specs.DeclaratorReading.{begins_direct as begins_direct_word};
-ghost use Rattle.c_expressions.specs.Held.{ReadsAfter};
+ghost use Rattle.c_type_names.specs.Held.{ReadsAfter};
 ghost use Rattle.c_declarations.specs.ParameterReading as spec;
 
 use crate::declarator::then_declarator;
 use crate::sizes::then_sizes;
-use c_expressions::chain::chain;
-use c_expressions::held::{instead, then_base, then_stars};
-use c_expressions::types::consts;
+use c_type_names::chain::{Operand, chain};
+use c_type_names::held::{instead, then_base, then_stars};
+use c_type_names::types::consts;
 use c_grammar::chain::Chain;
 use c_grammar::cursor::{Cursor, same};
 use c_grammar::declaration::{Parameter, Params, Sizes};
@@ -111,6 +111,23 @@ fn parameter(alloc: Global, tokens: &mut Cursor<'_>, depth: usize) -> Result<Par
     some_parameter(alloc, tokens, depth)
 }
 
+/// Reads parameters that nest below `depth`.
+#[derive(Clone, Copy)]
+struct ParameterReader {
+    alloc: Global,
+    depth: usize,
+}
+
+impl Operand<Parameter> for ParameterReader {
+    ghost can_read = { λ _. Unit {0} };
+
+    ghost parser = { λ r. spec.parameter r.depth };
+
+    fn operand(&self, tokens: &mut Cursor<'_>) -> Result<Parameter, ParseFault> {
+        parameter(self.alloc, tokens, self.depth)
+    }
+}
+
 fn parameter_list(
     alloc: Global,
     tokens: &mut Cursor<'_>,
@@ -118,10 +135,7 @@ fn parameter_list(
 ) -> Result<Chain<Parameter>, ParseFault>
     ensures { Reads (chain_at is_comma (spec.parameter depth) tokens.old) result tokens.new }
 {
-    let operand = |tokens: &mut Cursor<'_>| -> Result<Parameter, ParseFault>
-        ensures { Reads (spec.parameter depth tokens.old) result tokens.new }
-    { parameter(alloc, tokens, depth) };
-    chain(alloc, tokens, Operators::List, &operand)
+    chain(alloc, tokens, Operators::List, &ParameterReader { alloc, depth })
 }
 
 fn void_of(specifier: Specifier) -> Option<Leaf>

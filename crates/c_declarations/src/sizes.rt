@@ -3,7 +3,7 @@
 ghost use Rattle.std.specs.Prelude.{◌≡◌, ◌<◌};
 ghost use Rattle.c_grammar.specs.Declarations as grammar;
 ghost use Rattle.c_grammar.specs.Parsing.{Reads};
-ghost use Rattle.c_expressions.specs.Held.{ReadsAfter};
+ghost use Rattle.c_type_names.specs.Held.{ReadsAfter};
 ghost use Rattle.c_declarations.specs.ParameterReading as spec;
 
 use crate::bracket::{bracketed, then_bracketed};

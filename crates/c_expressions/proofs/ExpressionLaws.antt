@@ -1,5 +1,5 @@
 -- Expressions: a parser gives a tree exactly where one stands.
-use Rattle.std.proofs.Common.{◌≡◌, ℕ, zero, suc, ◌<◌, Bool, true, false, ◌||◌, ◌&&◌, List, [], ◌∷◌, Option, Some, None, refl, sym, ap, ap₂, subst, ◌∙◌, ⊎_elim, arith}
+use Rattle.std.proofs.Common.{◌≡◌, ℕ, zero, suc, ◌<◌, Bool, true, false, not, ◌||◌, ◌&&◌, List, [], ◌∷◌, Option, Some, None, refl, sym, ap, ap₂, subst, ◌∙◌, ⊎_elim, arith}
 use Rattle.c_grammar.specs.declared.word.Word.{Word}
 use Rattle.c_grammar.specs.declared.word.Word.TheVariants as w
 use Rattle.c_grammar.specs.declared.word.Leaf.{Leaf}
@@ -9,28 +9,30 @@ use Rattle.c_grammar.specs.declared.expression.Assign.{Assign}
 use Rattle.c_grammar.specs.declared.expression.Choice.{Choice}
 use Rattle.c_grammar.specs.declared.expression.Or.{Or}
 use Rattle.c_grammar.specs.declared.expression.Unary.{Unary}
+use Rattle.c_grammar.specs.declared.expression.Unary.TheVariants as u
+use Rattle.c_grammar.specs.declared.types.TypeName.{TypeName}
 use Rattle.c_grammar.specs.declared.expression.Postfix.{Postfix}
 use Rattle.c_grammar.specs.declared.expression.Suffix.{Suffix}
 use Rattle.c_grammar.specs.declared.expression.Primary.{Primary}
 use Rattle.c_grammar.specs.declared.expression.Primary.TheVariants as p
 use Rattle.c_grammar.specs.Words.{same}
-use Rattle.c_grammar.specs.Written.{Written, ◌then◌, one, one_of, nested, optional, run, links, chain, Takes}
+use Rattle.c_grammar.specs.Written.{Written, nothing, ◌then◌, one, one_of, nested, only, optional, run, links, chain, Takes}
 use Rattle.c_grammar.specs.Types.{type_name}
-use Rattle.c_grammar.specs.Expressions.{is_comma, is_prefix_operator, is_assignment_operator, assign, choice, or, unary, postfix, suffix, primary}
+use Rattle.c_grammar.specs.Expressions.{is_comma, is_prefix_operator, is_assignment_operator, is_cast, assign, choice, or, unary, postfix, suffix, primary}
 use Rattle.c_grammar.specs.Operators.{is_binary_operator}
 use Rattle.c_grammar.specs.Parsing.{Leaves, Parser, word_at, after, take_if, expect, run_at, chain_at, next_is}
-use Rattle.c_grammar.proofs.ExpressionShapes.{assign-Choice, assign-Assign, choice-Or, choice-Choose, unary-Postfix, unary-Prefix, unary-Cast, postfix-is, suffix-Index, suffix-Member, suffix-Arrow, suffix-Increment, suffix-Decrement, primary-Name, primary-Call, primary-Number, primary-Character, primary-Paren, assign_cases, choice_cases, unary_cases, postfix_cases, suffix_cases, primary_cases}
+use Rattle.c_grammar.proofs.ExpressionShapes.{assign-Choice, assign-Assign, choice-Or, choice-Choose, unary-Postfix, unary-Prefix, unary-Cast, unary-SizeOf, unary-SizeOfType, is_cast-Postfix, is_cast-Prefix, is_cast-Cast, is_cast-SizeOf, is_cast-SizeOfType, postfix-is, suffix-Index, suffix-Member, suffix-Arrow, suffix-Increment, suffix-Decrement, primary-Name, primary-Call, primary-Number, primary-Character, primary-Paren, assign_cases, choice_cases, unary_cases, postfix_cases, suffix_cases, primary_cases}
 use Rattle.c_grammar.proofs.Taking.{Takes-nothing, nothing-Takes, Takes-then, then-Takes, Takes-nested, nested-Takes}
 use Rattle.c_grammar.proofs.Reading.{bind_ok, gives_bind, chosen, choose, refuse_test, Sound, Complete, Ends, Starts, first_of_neither, second_of_neither, neither, take_if-takes, take_if-gives, take_if-word, finish, after-one, at_one, word_is}
 use Rattle.c_grammar.proofs.Chains.{chain-Sound, chain-Complete, chain-Starts}
 use Rattle.c_grammar.proofs.Runs.{run-Sound, run-Complete}
-use Rattle.c_expressions.specs.TypeReading as types
-use Rattle.c_expressions.specs.TypeReading.{begins_type, goes_on_type}
-use Rattle.c_expressions.specs.Grouping.{or_of}
+use Rattle.c_type_names.specs.TypeReading as types
+use Rattle.c_type_names.specs.TypeReading.{begins_type, goes_on_type}
+use Rattle.c_grouping.specs.Grouping.{or_of}
 use Rattle.c_expressions.specs.ExpressionReading as read
-use Rattle.c_expressions.specs.ExpressionReading.{Inner, deep, is_cast, is_suffix, inner_at, begins_primary, begins_expression, goes_on_unary, goes_on_or, goes_on_choice, goes_on_assign}
-use Rattle.c_expressions.proofs.TypeLaws.{type_name-Sound, type_name-Complete, type_name-Starts}
-use Rattle.c_expressions.proofs.GroupingLaws.{or_of-is, or-flat}
+use Rattle.c_expressions.specs.ExpressionReading.{Inner, deep, begins_cast, is_suffix, inner_at, begins_primary, begins_expression, goes_on_unary, goes_on_or, goes_on_choice, goes_on_assign}
+use Rattle.c_type_names.proofs.TypeLaws.{type_name-Sound, type_name-Complete, type_name-Starts}
+use Rattle.c_grouping.proofs.GroupingLaws.{or_of-is, or-flat}
 
 -- ---- where nothing may nest
 
@@ -49,6 +51,24 @@ nested_room x h = omega (arith, h.below)
 unnested : {k : ℕ} {ts rest : Leaves} {x : Written} → Takes k ts (nested x) rest → Takes k ts x rest
 unfolding nested
 unnested h = record { spelled = h.spelled; levelled = h.levelled; below = omega (arith, h.below) }
+
+-- ---- a condition, which writes nothing
+
+takes-only : (k : ℕ) (ts : Leaves) (b : Bool) → 0 < k → b ≡ true → Takes k ts (only b) ts
+unfolding only nothing
+takes-only k ts b some h = record { spelled = refl; levelled = h; below = omega arith }
+
+only-takes : {k : ℕ} {ts rest : Leaves} (b : Bool) → Takes k ts (only b) rest → (ts ≡ rest) × (b ≡ true)
+unfolding only nothing
+only-takes b h = (h.spelled, h.levelled)
+
+not_false : (b : Bool) → b ≡ false → not b ≡ true
+not_false true h = cc
+not_false false h = refl
+
+false_of_not : (b : Bool) → not b ≡ true → b ≡ false
+false_of_not true h = cc
+false_of_not false h = refl
 
 -- ---- a chain of one operand, and the tree of a chain
 
@@ -72,6 +92,204 @@ or-takes : {k : ℕ} (x : Or) {ts rest : Leaves} → Takes k ts (or x) rest → 
 or-takes {k = k} x {ts = ts} {rest = rest} h =
     let m = or-flat x h.levelled in
     record { flat = m.flat; made = m.made; takes = subst (λ v. Takes k ts v rest) (sym (ap or m.made) ∙ or_of-is m.flat) h }
+
+-- ---- how trees begin
+
+or_right : (b d : Bool) → d ≡ true → (b || d) ≡ true
+or_right true d h = refl
+or_right false d h = h
+
+pub primary-Starts : Starts primary begins_primary
+primary-Starts = record {
+  word = λ k ts x rest. primary_cases (λ x. Takes k ts (primary x) rest → begins_primary (word_at ts) ≡ true)
+      (λ n h. rw (word_is w.Name n (subst (λ v. Takes k ts v rest) (primary-Name n) h)) refl)
+      (λ n l args r h. rw (word_is w.Name n (then-Takes (subst (λ v. Takes k ts v rest) (primary-Call n l args r) h)).first) refl)
+      (λ n h. rw (word_is w.Number n (subst (λ v. Takes k ts v rest) (primary-Number n) h)) refl)
+      (λ n h. rw (word_is w.Character n (subst (λ v. Takes k ts v rest) (primary-Character n) h)) refl)
+      (λ l y r h. rw (word_is w.LeftParen l (then-Takes (subst (λ v. Takes k ts v rest) (primary-Paren l y r) h)).first) refl)
+      x;
+}
+
+pub suffix-Starts : Starts suffix is_suffix
+suffix-Starts = record {
+  word = λ k ts x rest. suffix_cases (λ x. Takes k ts (suffix x) rest → is_suffix (word_at ts) ≡ true)
+      (λ l y r h. rw (word_is w.LeftBracket l (then-Takes (subst (λ v. Takes k ts v rest) (suffix-Index l y r) h)).first) refl)
+      (λ d n h. rw (word_is w.Dot d (then-Takes (subst (λ v. Takes k ts v rest) (suffix-Member d n) h)).first) refl)
+      (λ d n h. rw (word_is w.Arrow d (then-Takes (subst (λ v. Takes k ts v rest) (suffix-Arrow d n) h)).first) refl)
+      (λ t h. rw (word_is w.Increment t (subst (λ v. Takes k ts v rest) (suffix-Increment t) h)) refl)
+      (λ t h. rw (word_is w.Decrement t (subst (λ v. Takes k ts v rest) (suffix-Decrement t) h)) refl)
+      x;
+}
+
+pub postfix-Starts : Starts postfix begins_primary
+postfix-Starts = record {
+  word = λ k ts x rest. postfix_cases (λ x. Takes k ts (postfix x) rest → begins_primary (word_at ts) ≡ true)
+      (λ y more h. let t = then-Takes (subst (λ v. Takes k ts v rest) (postfix-is y more) h) in primary-Starts.word k ts y t.mid t.first)
+      x;
+}
+
+prefix_begins : (x : Word) → is_prefix_operator x ≡ true → begins_expression x ≡ true
+prefix_begins x h = of (is_prefix_operator x) h
+  where
+    of : (b : Bool) → b ≡ true → (b || (same w.SizeOf x || begins_primary x)) ≡ true
+    of true h = refl
+    of false h = cc
+
+pub unary-Starts : Starts unary begins_expression
+unary-Starts = record {
+  word = λ k ts x rest. unary_cases (λ x. Takes k ts (unary x) rest → begins_expression (word_at ts) ≡ true)
+      (λ y h. or_right _ _ (or_right _ _ (postfix-Starts.word k ts y rest (subst (λ v. Takes k ts v rest) (unary-Postfix y) h))))
+      (λ t y h. prefix_begins (word_at ts) (take_if-word is_prefix_operator t (then-Takes (subst (λ v. Takes k ts v rest) (unary-Prefix t y) h)).first))
+      (λ l y r z h. rw (word_is w.LeftParen l (then-Takes (subst (λ v. Takes k ts v rest) (unary-Cast l y r z) h)).first) refl)
+      (λ t y h. rw (word_is w.SizeOf t (then-Takes (subst (λ v. Takes k ts v rest) (unary-SizeOf t y) h)).first) refl)
+      (λ t l y r h. rw (word_is w.SizeOf t (then-Takes (subst (λ v. Takes k ts v rest) (unary-SizeOfType t l y r) h)).first) refl)
+      x;
+}
+
+pub or-Starts : Starts or begins_expression
+or-Starts = record { word = λ k ts x rest h. let f = or-takes x h in (chain-Starts is_binary_operator unary begins_expression unary-Starts).word k ts f.flat rest f.takes }
+
+pub choice-Starts : Starts choice begins_expression
+choice-Starts = record {
+  word = λ k ts x rest. choice_cases (λ x. Takes k ts (choice x) rest → begins_expression (word_at ts) ≡ true)
+      (λ y h. or-Starts.word k ts y rest (subst (λ v. Takes k ts v rest) (choice-Or y) h))
+      (λ y q z d e h. let t = then-Takes (subst (λ v. Takes k ts v rest) (choice-Choose y q z d e) h) in or-Starts.word k ts y t.mid t.first)
+      x;
+}
+
+pub assign-Starts : Starts assign begins_expression
+assign-Starts = record {
+  word = λ k ts x rest. assign_cases (λ x. Takes k ts (assign x) rest → begins_expression (word_at ts) ≡ true)
+      (λ y h. choice-Starts.word k ts y rest (subst (λ v. Takes k ts v rest) (assign-Choice y) h))
+      (λ l t r h. let t = then-Takes (subst (λ v. Takes k ts v rest) (assign-Assign l t r) h) in unary-Starts.word k ts l t.mid t.first)
+      x;
+}
+
+-- ---- words that can't stand where others can
+
+binary_apart : (x : Word) → is_binary_operator x ≡ true → goes_on_unary x ≡ false
+binary_apart w.OrOr h = refl
+binary_apart w.AndAnd h = refl
+binary_apart w.Bar h = refl
+binary_apart w.Caret h = refl
+binary_apart w.Ampersand h = refl
+binary_apart w.EqualEqual h = refl
+binary_apart w.NotEqual h = refl
+binary_apart w.Less h = refl
+binary_apart w.Greater h = refl
+binary_apart w.LessEqual h = refl
+binary_apart w.GreaterEqual h = refl
+binary_apart w.ShiftLeft h = refl
+binary_apart w.ShiftRight h = refl
+binary_apart w.Plus h = refl
+binary_apart w.Minus h = refl
+binary_apart w.Star h = refl
+binary_apart w.Slash h = refl
+binary_apart w.Percent h = refl
+binary_apart _ h = cc
+
+assignment_apart : (x : Word) → is_assignment_operator x ≡ true → goes_on_or x ≡ false
+assignment_apart w.Assign h = refl
+assignment_apart w.StarAssign h = refl
+assignment_apart w.SlashAssign h = refl
+assignment_apart w.PercentAssign h = refl
+assignment_apart w.PlusAssign h = refl
+assignment_apart w.MinusAssign h = refl
+assignment_apart w.ShiftLeftAssign h = refl
+assignment_apart w.ShiftRightAssign h = refl
+assignment_apart w.AndAssign h = refl
+assignment_apart w.XorAssign h = refl
+assignment_apart w.OrAssign h = refl
+assignment_apart _ h = cc
+
+comma_apart : (x : Word) → is_comma x ≡ true → goes_on_assign x ≡ false
+comma_apart w.Comma h = refl
+comma_apart _ h = cc
+
+suffix_apart : (x : Word) → is_suffix x ≡ true → same w.LeftParen x ≡ false
+suffix_apart w.LeftParen h = cc
+suffix_apart _ h = refl
+
+begins_no_type : (x : Word) → begins_expression x ≡ true → begins_type x ≡ false
+begins_no_type w.Void h = cc
+begins_no_type w.Struct h = cc
+begins_no_type w.Char h = cc
+begins_no_type w.Signed h = cc
+begins_no_type w.Unsigned h = cc
+begins_no_type w.Short h = cc
+begins_no_type w.Int h = cc
+begins_no_type w.Long h = cc
+begins_no_type _ h = refl
+
+begins_no_close : (x : Word) → begins_expression x ≡ true → same w.RightParen x ≡ false
+begins_no_close w.RightParen h = cc
+begins_no_close _ h = refl
+
+primary_no_prefix : (x : Word) → begins_primary x ≡ true → is_prefix_operator x ≡ false
+primary_no_prefix w.Name h = refl
+primary_no_prefix w.Number h = refl
+primary_no_prefix w.Character h = refl
+primary_no_prefix w.LeftParen h = refl
+primary_no_prefix _ h = cc
+
+primary_no_size : (x : Word) → begins_primary x ≡ true → same w.SizeOf x ≡ false
+primary_no_size w.SizeOf h = cc
+primary_no_size _ h = refl
+
+prefix_no_cast : (x y : Word) → is_prefix_operator x ≡ true → begins_cast x y ≡ false
+prefix_no_cast w.LeftParen y h = cc
+prefix_no_cast _ y h = refl
+
+-- an expression in parentheses is no cast
+no_cast : (x y : Word) → begins_type y ≡ false → begins_cast x y ≡ false
+no_cast x y h = of (same w.LeftParen x)
+  where
+    of : (b : Bool) → (b && begins_type y) ≡ false
+    of true = h
+    of false = refl
+
+primary_no_cast : (k : ℕ) (ts : Leaves) (x : Primary) (rest : Leaves) → Takes k ts (primary x) rest → begins_cast (word_at ts) (word_at (after ts)) ≡ false
+primary_no_cast k ts x rest = primary_cases (λ x. Takes k ts (primary x) rest → begins_cast (word_at ts) (word_at (after ts)) ≡ false)
+    (λ n h. rw (word_is w.Name n (subst (λ v. Takes k ts v rest) (primary-Name n) h)) refl)
+    (λ n l args r h. rw (word_is w.Name n (then-Takes (subst (λ v. Takes k ts v rest) (primary-Call n l args r) h)).first) refl)
+    (λ n h. rw (word_is w.Number n (subst (λ v. Takes k ts v rest) (primary-Number n) h)) refl)
+    (λ n h. rw (word_is w.Character n (subst (λ v. Takes k ts v rest) (primary-Character n) h)) refl)
+    (λ l y r h.
+    let t = then-Takes (subst (λ v. Takes k ts v rest) (primary-Paren l y r) h) in
+    let i = then-Takes t.second in
+    let e = assign-Starts.word k t.mid y i.mid (unnested i.first) in
+    no_cast (word_at ts) (word_at (after ts)) (rw (after-one (same w.LeftParen) l t.first) (begins_no_type (word_at t.mid) e)))
+    x
+
+postfix_no_cast : (k : ℕ) (ts : Leaves) (x : Postfix) (rest : Leaves) → Takes k ts (postfix x) rest → begins_cast (word_at ts) (word_at (after ts)) ≡ false
+postfix_no_cast k ts x rest = postfix_cases (λ x. Takes k ts (postfix x) rest → begins_cast (word_at ts) (word_at (after ts)) ≡ false)
+    (λ y more h. let t = then-Takes (subst (λ v. Takes k ts v rest) (postfix-is y more) h) in primary_no_cast k ts y t.mid t.first)
+    x
+
+-- the first words of a cast, and of no other operand, begin a type in parentheses
+cast_begins : (k : ℕ) (ts : Leaves) (l : Leaf) (y : TypeName) (r : Leaf) (z : Unary) (rest : Leaves) → Takes k ts (unary (u.Cast l y r z)) rest → begins_cast (word_at ts) (word_at (after ts)) ≡ true
+cast_begins k ts l y r z rest h =
+    let t = then-Takes (subst (λ v. Takes k ts v rest) (unary-Cast l y r z) h) in
+    let i = then-Takes t.second in
+    ap₂ begins_cast (word_is w.LeftParen l t.first) (ap word_at (after-one (same w.LeftParen) l t.first)) ∙ type_name-Starts.word k t.mid y i.mid (unnested i.first)
+
+unary_no_cast : (k : ℕ) (ts : Leaves) (x : Unary) (rest : Leaves) → Takes k ts (unary x) rest → is_cast x ≡ false → begins_cast (word_at ts) (word_at (after ts)) ≡ false
+unary_no_cast k ts x rest = unary_cases (λ x. Takes k ts (unary x) rest → is_cast x ≡ false → begins_cast (word_at ts) (word_at (after ts)) ≡ false)
+    (λ y h is. postfix_no_cast k ts y rest (subst (λ v. Takes k ts v rest) (unary-Postfix y) h))
+    (λ o y h is. prefix_no_cast (word_at ts) (word_at (after ts)) (take_if-word is_prefix_operator o (then-Takes (subst (λ v. Takes k ts v rest) (unary-Prefix o y) h)).first))
+    (λ l y r z h is. let cast = is_cast-Cast l y r z in cc)
+    (λ o y h is. ap (λ x. begins_cast x (word_at (after ts))) (word_is w.SizeOf o (then-Takes (subst (λ v. Takes k ts v rest) (unary-SizeOf o y) h)).first))
+    (λ o l y r h is. ap (λ x. begins_cast x (word_at (after ts))) (word_is w.SizeOf o (then-Takes (subst (λ v. Takes k ts v rest) (unary-SizeOfType o l y r) h)).first))
+    x
+
+is_no_cast : (k : ℕ) (ts : Leaves) (x : Unary) (rest : Leaves) → Takes k ts (unary x) rest → begins_cast (word_at ts) (word_at (after ts)) ≡ false → is_cast x ≡ false
+is_no_cast k ts x rest = unary_cases (λ x. Takes k ts (unary x) rest → begins_cast (word_at ts) (word_at (after ts)) ≡ false → is_cast x ≡ false)
+    (λ y h begins. is_cast-Postfix y)
+    (λ o y h begins. is_cast-Prefix o y)
+    (λ l y r z h begins. let cast = cast_begins k ts l y r z rest h in cc)
+    (λ o y h begins. is_cast-SizeOf o y)
+    (λ o l y r h begins. is_cast-SizeOfType o l y r)
+    x
 
 -- ---- soundness, at one level
 
@@ -182,14 +400,43 @@ module _ (k : ℕ) (inner : Inner) (depth_is : inner.depth ≡ k) (assign_sound 
       finish unary (unary-Cast l.value y.value r.value z.value) z.second
       (Takes-then (took _ _ _ _ l.first) (Takes-then (Takes-nested (type.takes _ _ _ y.first)) (Takes-then (took _ _ _ _ r.first) (Takes-nested (unary_sound.takes _ _ _ z.first)))))
 
+  size_of_type-takes : (first : Leaf) (ts mid : Leaves) (x : Unary) (rest : Leaves) → Takes (suc k) ts (one w.SizeOf first) mid → read.size_of_type inner first mid ≡ Some (x, rest)
+      → Takes (suc k) ts (unary x) rest
+  unfolding read.size_of_type
+  size_of_type-takes first ts mid x rest word h =
+      let l = bind_ok (expect w.LeftParen mid) _ x rest h in
+      let y = bind_ok (types.type_name inner.depth l.mid) _ x rest l.second in
+      let r = bind_ok (expect w.RightParen y.mid) _ x rest y.second in
+      let type = subst (λ n. Sound k (types.type_name n) type_name) (sym depth_is) (type_name-Sound k) in
+      finish unary (unary-SizeOfType first l.value y.value r.value) r.second
+      (Takes-then word (Takes-then (took _ _ _ _ l.first) (Takes-then (Takes-nested (type.takes _ _ _ y.first)) (took _ _ _ _ r.first))))
+
+  size-takes : (ts : Leaves) (x : Unary) (rest : Leaves) → read.size inner ts ≡ Some (x, rest) → Takes (suc k) ts (unary x) rest
+  unfolding read.size read.size_of_operand
+  size-takes ts x rest h =
+      let t = bind_ok (expect w.SizeOf ts) _ x rest h in
+      let word = took _ _ _ _ t.first in
+      ⊎_elim
+      (λ q. size_of_type-takes t.value ts t.mid x rest word q.1)
+      (λ q.
+      let y = bind_ok (inner.unary t.mid) _ x rest q.1 in
+      let operand = unary_sound.takes _ _ _ y.first in
+      let no_cast = not_false (is_cast y.value) (is_no_cast k t.mid y.value y.mid operand q.0) in
+      finish unary (unary-SizeOf t.value y.value) y.second
+      (Takes-then word (Takes-then (Takes-nested operand) (takes-only (suc k) y.mid (not (is_cast y.value)) (omega arith) no_cast))))
+      (chosen (begins_cast (word_at t.mid) (word_at (after t.mid))) _ _ t.mid _ t.second)
+
   unary-takes : (ts : Leaves) (x : Unary) (rest : Leaves) → read.unary inner ts ≡ Some (x, rest) → Takes (suc k) ts (unary x) rest
   unfolding read.unary
   unary-takes ts x rest h = ⊎_elim
       (λ q. prefix-takes ts x rest (deep-takes inner.depth (read.prefix inner) ts x rest q.1))
       (λ q. ⊎_elim
-      (λ r. cast-takes ts x rest (deep-takes inner.depth (read.cast inner) ts x rest r.1))
-      (λ r. let y = bind_ok (read.postfix inner ts) _ x rest r.1 in finish unary (unary-Postfix y.value) y.second (postfix-takes ts y.value y.mid y.first))
-      (chosen (is_cast (word_at ts) (word_at (after ts))) _ _ ts _ q.1))
+      (λ r. size-takes ts x rest (deep-takes inner.depth (read.size inner) ts x rest r.1))
+      (λ r. ⊎_elim
+      (λ s. cast-takes ts x rest (deep-takes inner.depth (read.cast inner) ts x rest s.1))
+      (λ s. let y = bind_ok (read.postfix inner ts) _ x rest s.1 in finish unary (unary-Postfix y.value) y.second (postfix-takes ts y.value y.mid y.first))
+      (chosen (begins_cast (word_at ts) (word_at (after ts))) _ _ ts _ r.1))
+      (chosen (same w.SizeOf (word_at ts)) _ _ ts _ q.1))
       (chosen (is_prefix_operator (word_at ts)) _ _ ts _ h)
 
   flat-Sound : Sound (suc k) (read.flat inner) (chain is_binary_operator unary)
@@ -244,169 +491,6 @@ module _ (k : ℕ) (inner : Inner) (depth_is : inner.depth ≡ k) (assign_sound 
       let y = bind_ok (read.choice_after inner (or_of f.value) f.mid) _ x rest q.1 in
       finish assign (assign-Choice y.value) y.second (choice_after-takes (or_of f.value) ts f.mid y.value y.mid (takes-or f.value found) y.first))
       (chosen (is_assignment_operator (word_at f.mid)) _ _ f.mid _ f.second)
-
--- ---- how trees begin
-
-or_right : (b d : Bool) → d ≡ true → (b || d) ≡ true
-or_right true d h = refl
-or_right false d h = h
-
-pub primary-Starts : Starts primary begins_primary
-primary-Starts = record {
-  word = λ k ts x rest. primary_cases (λ x. Takes k ts (primary x) rest → begins_primary (word_at ts) ≡ true)
-      (λ n h. rw (word_is w.Name n (subst (λ v. Takes k ts v rest) (primary-Name n) h)) refl)
-      (λ n l args r h. rw (word_is w.Name n (then-Takes (subst (λ v. Takes k ts v rest) (primary-Call n l args r) h)).first) refl)
-      (λ n h. rw (word_is w.Number n (subst (λ v. Takes k ts v rest) (primary-Number n) h)) refl)
-      (λ n h. rw (word_is w.Character n (subst (λ v. Takes k ts v rest) (primary-Character n) h)) refl)
-      (λ l y r h. rw (word_is w.LeftParen l (then-Takes (subst (λ v. Takes k ts v rest) (primary-Paren l y r) h)).first) refl)
-      x;
-}
-
-pub suffix-Starts : Starts suffix is_suffix
-suffix-Starts = record {
-  word = λ k ts x rest. suffix_cases (λ x. Takes k ts (suffix x) rest → is_suffix (word_at ts) ≡ true)
-      (λ l y r h. rw (word_is w.LeftBracket l (then-Takes (subst (λ v. Takes k ts v rest) (suffix-Index l y r) h)).first) refl)
-      (λ d n h. rw (word_is w.Dot d (then-Takes (subst (λ v. Takes k ts v rest) (suffix-Member d n) h)).first) refl)
-      (λ d n h. rw (word_is w.Arrow d (then-Takes (subst (λ v. Takes k ts v rest) (suffix-Arrow d n) h)).first) refl)
-      (λ t h. rw (word_is w.Increment t (subst (λ v. Takes k ts v rest) (suffix-Increment t) h)) refl)
-      (λ t h. rw (word_is w.Decrement t (subst (λ v. Takes k ts v rest) (suffix-Decrement t) h)) refl)
-      x;
-}
-
-pub postfix-Starts : Starts postfix begins_primary
-postfix-Starts = record {
-  word = λ k ts x rest. postfix_cases (λ x. Takes k ts (postfix x) rest → begins_primary (word_at ts) ≡ true)
-      (λ y more h. let t = then-Takes (subst (λ v. Takes k ts v rest) (postfix-is y more) h) in primary-Starts.word k ts y t.mid t.first)
-      x;
-}
-
-prefix_begins : (x : Word) → is_prefix_operator x ≡ true → begins_expression x ≡ true
-prefix_begins x h = of (is_prefix_operator x) h
-  where
-    of : (b : Bool) → b ≡ true → (b || begins_primary x) ≡ true
-    of true h = refl
-    of false h = cc
-
-pub unary-Starts : Starts unary begins_expression
-unary-Starts = record {
-  word = λ k ts x rest. unary_cases (λ x. Takes k ts (unary x) rest → begins_expression (word_at ts) ≡ true)
-      (λ y h. or_right _ _ (postfix-Starts.word k ts y rest (subst (λ v. Takes k ts v rest) (unary-Postfix y) h)))
-      (λ t y h. prefix_begins (word_at ts) (take_if-word is_prefix_operator t (then-Takes (subst (λ v. Takes k ts v rest) (unary-Prefix t y) h)).first))
-      (λ l y r z h. rw (word_is w.LeftParen l (then-Takes (subst (λ v. Takes k ts v rest) (unary-Cast l y r z) h)).first) refl)
-      x;
-}
-
-pub or-Starts : Starts or begins_expression
-or-Starts = record { word = λ k ts x rest h. let f = or-takes x h in (chain-Starts is_binary_operator unary begins_expression unary-Starts).word k ts f.flat rest f.takes }
-
-pub choice-Starts : Starts choice begins_expression
-choice-Starts = record {
-  word = λ k ts x rest. choice_cases (λ x. Takes k ts (choice x) rest → begins_expression (word_at ts) ≡ true)
-      (λ y h. or-Starts.word k ts y rest (subst (λ v. Takes k ts v rest) (choice-Or y) h))
-      (λ y q z d e h. let t = then-Takes (subst (λ v. Takes k ts v rest) (choice-Choose y q z d e) h) in or-Starts.word k ts y t.mid t.first)
-      x;
-}
-
-pub assign-Starts : Starts assign begins_expression
-assign-Starts = record {
-  word = λ k ts x rest. assign_cases (λ x. Takes k ts (assign x) rest → begins_expression (word_at ts) ≡ true)
-      (λ y h. choice-Starts.word k ts y rest (subst (λ v. Takes k ts v rest) (assign-Choice y) h))
-      (λ l t r h. let t = then-Takes (subst (λ v. Takes k ts v rest) (assign-Assign l t r) h) in unary-Starts.word k ts l t.mid t.first)
-      x;
-}
-
--- ---- words that can't stand where others can
-
-binary_apart : (x : Word) → is_binary_operator x ≡ true → goes_on_unary x ≡ false
-binary_apart w.OrOr h = refl
-binary_apart w.AndAnd h = refl
-binary_apart w.Bar h = refl
-binary_apart w.Caret h = refl
-binary_apart w.Ampersand h = refl
-binary_apart w.EqualEqual h = refl
-binary_apart w.NotEqual h = refl
-binary_apart w.Less h = refl
-binary_apart w.Greater h = refl
-binary_apart w.LessEqual h = refl
-binary_apart w.GreaterEqual h = refl
-binary_apart w.ShiftLeft h = refl
-binary_apart w.ShiftRight h = refl
-binary_apart w.Plus h = refl
-binary_apart w.Minus h = refl
-binary_apart w.Star h = refl
-binary_apart w.Slash h = refl
-binary_apart w.Percent h = refl
-binary_apart _ h = cc
-
-assignment_apart : (x : Word) → is_assignment_operator x ≡ true → goes_on_or x ≡ false
-assignment_apart w.Assign h = refl
-assignment_apart w.StarAssign h = refl
-assignment_apart w.SlashAssign h = refl
-assignment_apart w.PercentAssign h = refl
-assignment_apart w.PlusAssign h = refl
-assignment_apart w.MinusAssign h = refl
-assignment_apart w.ShiftLeftAssign h = refl
-assignment_apart w.ShiftRightAssign h = refl
-assignment_apart w.AndAssign h = refl
-assignment_apart w.XorAssign h = refl
-assignment_apart w.OrAssign h = refl
-assignment_apart _ h = cc
-
-comma_apart : (x : Word) → is_comma x ≡ true → goes_on_assign x ≡ false
-comma_apart w.Comma h = refl
-comma_apart _ h = cc
-
-suffix_apart : (x : Word) → is_suffix x ≡ true → same w.LeftParen x ≡ false
-suffix_apart w.LeftParen h = cc
-suffix_apart _ h = refl
-
-begins_no_type : (x : Word) → begins_expression x ≡ true → begins_type x ≡ false
-begins_no_type w.Void h = cc
-begins_no_type w.Struct h = cc
-begins_no_type w.Char h = cc
-begins_no_type w.Signed h = cc
-begins_no_type w.Unsigned h = cc
-begins_no_type w.Short h = cc
-begins_no_type w.Int h = cc
-begins_no_type w.Long h = cc
-begins_no_type _ h = refl
-
-begins_no_close : (x : Word) → begins_expression x ≡ true → same w.RightParen x ≡ false
-begins_no_close w.RightParen h = cc
-begins_no_close _ h = refl
-
-primary_no_prefix : (x : Word) → begins_primary x ≡ true → is_prefix_operator x ≡ false
-primary_no_prefix w.Name h = refl
-primary_no_prefix w.Number h = refl
-primary_no_prefix w.Character h = refl
-primary_no_prefix w.LeftParen h = refl
-primary_no_prefix _ h = cc
-
--- an expression in parentheses is no cast
-no_cast : (x y : Word) → begins_type y ≡ false → is_cast x y ≡ false
-no_cast x y h = of (same w.LeftParen x)
-  where
-    of : (b : Bool) → (b && begins_type y) ≡ false
-    of true = h
-    of false = refl
-
-primary_no_cast : (k : ℕ) (ts : Leaves) (x : Primary) (rest : Leaves) → Takes k ts (primary x) rest → is_cast (word_at ts) (word_at (after ts)) ≡ false
-primary_no_cast k ts x rest = primary_cases (λ x. Takes k ts (primary x) rest → is_cast (word_at ts) (word_at (after ts)) ≡ false)
-    (λ n h. rw (word_is w.Name n (subst (λ v. Takes k ts v rest) (primary-Name n) h)) refl)
-    (λ n l args r h. rw (word_is w.Name n (then-Takes (subst (λ v. Takes k ts v rest) (primary-Call n l args r) h)).first) refl)
-    (λ n h. rw (word_is w.Number n (subst (λ v. Takes k ts v rest) (primary-Number n) h)) refl)
-    (λ n h. rw (word_is w.Character n (subst (λ v. Takes k ts v rest) (primary-Character n) h)) refl)
-    (λ l y r h.
-    let t = then-Takes (subst (λ v. Takes k ts v rest) (primary-Paren l y r) h) in
-    let i = then-Takes t.second in
-    let e = assign-Starts.word k t.mid y i.mid (unnested i.first) in
-    no_cast (word_at ts) (word_at (after ts)) (rw (after-one (same w.LeftParen) l t.first) (begins_no_type (word_at t.mid) e)))
-    x
-
-postfix_no_cast : (k : ℕ) (ts : Leaves) (x : Postfix) (rest : Leaves) → Takes k ts (postfix x) rest → is_cast (word_at ts) (word_at (after ts)) ≡ false
-postfix_no_cast k ts x rest = postfix_cases (λ x. Takes k ts (postfix x) rest → is_cast (word_at ts) (word_at (after ts)) ≡ false)
-    (λ y more h. let t = then-Takes (subst (λ v. Takes k ts v rest) (postfix-is y more) h) in primary_no_cast k ts y t.mid t.first)
-    x
 
 -- ---- completeness, at one level
 
@@ -506,12 +590,13 @@ module _ (k : ℕ) (inner : Inner) (depth_is : inner.depth ≡ k) (assign_comple
       x
 
   unary-gives : (x : Unary) (ts rest : Leaves) → Takes (suc k) ts (unary x) rest → Ends goes_on_unary rest → read.unary inner ts ≡ Some (x, rest)
-  unfolding read.unary read.prefix read.cast
+  unfolding read.unary read.prefix read.cast read.size read.size_of_type read.size_of_operand
   unary-gives x ts rest = unary_cases (λ x. Takes (suc k) ts (unary x) rest → Ends goes_on_unary rest → read.unary inner ts ≡ Some (x, rest))
       (λ y h end.
       let t = subst (λ v. Takes (suc k) ts v rest) (unary-Postfix y) h in
       refuse_test (is_prefix_operator (word_at ts)) _ _ ts (primary_no_prefix (word_at ts) (postfix-Starts.word (suc k) ts y rest t))
-      ∙ refuse_test (is_cast (word_at ts) (word_at (after ts))) _ _ ts (postfix_no_cast (suc k) ts y rest t)
+      ∙ refuse_test (same w.SizeOf (word_at ts)) _ _ ts (primary_no_size (word_at ts) (postfix-Starts.word (suc k) ts y rest t))
+      ∙ refuse_test (begins_cast (word_at ts) (word_at (after ts))) _ _ ts (postfix_no_cast (suc k) ts y rest t)
       ∙ gives_bind _ (postfix-gives y ts rest t end) refl)
       (λ o y h end.
       let t = then-Takes (subst (λ v. Takes (suc k) ts v rest) (unary-Prefix o y) h) in
@@ -525,12 +610,38 @@ module _ (k : ℕ) (inner : Inner) (depth_is : inner.depth ≡ k) (assign_comple
       let type = subst (λ n. Complete k (types.type_name n) type_name goes_on_type) (sym depth_is) (type_name-Complete k) in
       let begins = type_name-Starts.word (suc k) t.mid y i.mid (unnested i.first) in
       refuse_test (is_prefix_operator (word_at ts)) _ _ ts (ap is_prefix_operator (word_is w.LeftParen l t.first))
-      ∙ choose (is_cast (word_at ts) (word_at (after ts))) _ _ ts
-      (ap₂ is_cast (word_is w.LeftParen l t.first) (ap word_at (after-one (same w.LeftParen) l t.first)) ∙ begins)
+      ∙ refuse_test (same w.SizeOf (word_at ts)) _ _ ts (ap (same w.SizeOf) (word_is w.LeftParen l t.first))
+      ∙ choose (begins_cast (word_at ts) (word_at (after ts))) _ _ ts
+      (ap₂ begins_cast (word_is w.LeftParen l t.first) (ap word_at (after-one (same w.LeftParen) l t.first)) ∙ begins)
       ∙ deeper (read.cast inner) ts (nested_room (type_name y) i.first)
       ∙ gives_bind _ (take_if-gives (same w.LeftParen) l t.first)
       (gives_bind _ (type.gives t.mid y i.mid (nested-Takes i.first) (at_one w.RightParen r j.first refl))
       (gives_bind _ (take_if-gives (same w.RightParen) r j.first) (gives_bind _ (unary_complete.gives j.mid z rest (nested-Takes j.second) end) refl))))
+      (λ o y h end.
+      let t = then-Takes (subst (λ v. Takes (suc k) ts v rest) (unary-SizeOf o y) h) in
+      let i = then-Takes t.second in
+      let over = only-takes (not (is_cast y)) i.second in
+      let operand = nested-Takes (subst (λ r. Takes (suc k) t.mid (nested (unary y)) r) over.0 i.first) in
+      refuse_test (is_prefix_operator (word_at ts)) _ _ ts (ap is_prefix_operator (word_is w.SizeOf o t.first))
+      ∙ choose (same w.SizeOf (word_at ts)) _ _ ts (take_if-word (same w.SizeOf) o t.first)
+      ∙ deeper (read.size inner) ts (nested_room (unary y) i.first)
+      ∙ gives_bind _ (take_if-gives (same w.SizeOf) o t.first)
+      (refuse_test (begins_cast (word_at t.mid) (word_at (after t.mid))) _ _ t.mid (unary_no_cast k t.mid y rest operand (false_of_not (is_cast y) over.1))
+      ∙ gives_bind _ (unary_complete.gives t.mid y rest operand end) refl))
+      (λ o l y r h end.
+      let t = then-Takes (subst (λ v. Takes (suc k) ts v rest) (unary-SizeOfType o l y r) h) in
+      let i = then-Takes t.second in
+      let j = then-Takes i.second in
+      let type = subst (λ n. Complete k (types.type_name n) type_name goes_on_type) (sym depth_is) (type_name-Complete k) in
+      let begins = type_name-Starts.word (suc k) i.mid y j.mid (unnested j.first) in
+      refuse_test (is_prefix_operator (word_at ts)) _ _ ts (ap is_prefix_operator (word_is w.SizeOf o t.first))
+      ∙ choose (same w.SizeOf (word_at ts)) _ _ ts (take_if-word (same w.SizeOf) o t.first)
+      ∙ deeper (read.size inner) ts (nested_room (type_name y) j.first)
+      ∙ gives_bind _ (take_if-gives (same w.SizeOf) o t.first)
+      (choose (begins_cast (word_at t.mid) (word_at (after t.mid))) _ _ t.mid
+      (ap₂ begins_cast (word_is w.LeftParen l i.first) (ap word_at (after-one (same w.LeftParen) l i.first)) ∙ begins)
+      ∙ gives_bind _ (take_if-gives (same w.LeftParen) l i.first)
+      (gives_bind _ (type.gives i.mid y j.mid (nested-Takes j.first) (at_one w.RightParen r j.second refl)) (gives_bind _ (take_if-gives (same w.RightParen) r j.second) refl))))
       x
 
   flat-Complete : Complete (suc k) (read.flat inner) (chain is_binary_operator unary) goes_on_or

@@ -1,8 +1,3 @@
-pub mod TypeLaws
-pub mod GroupingLaws
 pub mod ExpressionLaws
-pub mod Turns
-pub mod GroupSteps
 pub mod Depths
-pub mod NestingLaws
 pub mod ExactnessLaws

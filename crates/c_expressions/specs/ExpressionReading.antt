@@ -21,8 +21,8 @@ use Rattle.c_grammar.specs.Words.{same}
 use Rattle.c_grammar.specs.Expressions.{is_comma, is_prefix_operator, is_assignment_operator}
 use Rattle.c_grammar.specs.Operators.{is_binary_operator}
 use Rattle.c_grammar.specs.Parsing.{Parser, ◌>>=◌, ◌<$>◌, pure, refuse, peek, peek_second, take_if, expect, run_at, chain_at}
-use Rattle.c_expressions.specs.TypeReading.{begins_type, type_name}
-use Rattle.c_expressions.specs.Grouping.{or_of}
+use Rattle.c_type_names.specs.TypeReading.{begins_type, type_name}
+use Rattle.c_grouping.specs.Grouping.{or_of}
 
 -- the parsers of what stands in a position that nests, and how deep that may nest
 pub record Inner : Type 0 where
@@ -41,8 +41,9 @@ abbrev pub lone : Unary → List (Link Unary) → Parser Unary
 lone left [] = pure left
 lone left (l ∷ ls) = refuse
 
-abbrev pub is_cast : Word → Word → Bool
-is_cast first second = same w.LeftParen first && begins_type second
+-- these words begin a type in parentheses
+abbrev pub begins_cast : Word → Word → Bool
+begins_cast first second = same w.LeftParen first && begins_type second
 
 abbrev pub is_suffix : Word → Bool
 is_suffix w.LeftBracket = true
@@ -146,11 +147,32 @@ module _ (inner : Inner) where
     operand ← inner.unary
     pure (u.Cast opening type closing operand)
 
+  -- after `sizeof`
+  unfoldable pub size_of_type : Leaf → Parser Unary
+  size_of_type first = do
+    opening ← expect w.LeftParen
+    type ← type_name inner.depth
+    closing ← expect w.RightParen
+    pure (u.SizeOfType first opening type closing)
+
+  unfoldable pub size_of_operand : Leaf → Parser Unary
+  size_of_operand first = do
+    operand ← inner.unary
+    pure (u.SizeOf first operand)
+
+  unfoldable pub size : Parser Unary
+  size = do
+    first ← expect w.SizeOf
+    next ← peek
+    second ← peek_second
+    if begins_cast next second then size_of_type first else size_of_operand first
+
   unfoldable pub unary : Parser Unary
   unary = do
     first ← peek
     second ← peek_second
-    if is_prefix_operator first then deep inner.depth prefix else (if is_cast first second then deep inner.depth cast else u.Postfix <$> postfix)
+    if is_prefix_operator first then deep inner.depth prefix else
+        (if same w.SizeOf first then deep inner.depth size else (if begins_cast first second then deep inner.depth cast else u.Postfix <$> postfix))
 
   -- operands and the binary operators of all levels
   unfoldable pub flat : Parser (Chain Unary)
@@ -213,7 +235,7 @@ begins_primary w.LeftParen = true
 begins_primary _ = false
 
 abbrev pub begins_expression : Word → Bool
-begins_expression x = is_prefix_operator x || begins_primary x
+begins_expression x = is_prefix_operator x || (same w.SizeOf x || begins_primary x)
 
 abbrev pub goes_on_unary : Word → Bool
 goes_on_unary x = same w.LeftParen x || is_suffix x

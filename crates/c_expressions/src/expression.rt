@@ -1,6 +1,6 @@
-//! Expressions. Each rule is a method that takes the parsers of what nests as function values.
+//! Expressions. Each rule is a method that has the parsers of what nests as function values.
 
-ghost use Rattle.std.specs.Prelude.{◌≡◌, [], ◌∷◌, length};
+ghost use Rattle.std.specs.Prelude.{◌≡◌, [], length};
 ghost use Rattle.c_grammar.specs.declared.word.Word.TheVariants as w;
 ghost use Rattle.c_grammar.specs.Words.{same as same_word};
 ghost use Rattle.std.specs.Result.{result_map_both};
@@ -8,16 +8,12 @@ ghost use Rattle.c_grammar.specs.declared.operators.Operators.TheVariants as o;
 ghost use Rattle.c_grammar.specs.Operators.{has, continues};
 ghost use Rattle.c_grammar.specs.Parsing.{Reads, and_then, pure, links_from, run_at};
 ghost use Rattle.c_grammar.specs.Follows.{Nests};
-ghost use Rattle.c_expressions.specs.TypeReading as types;
-ghost use Rattle.c_expressions.specs.Grouping as grouping;
-ghost use Rattle.c_expressions.specs.Held.{ReadsAfter};
+ghost use Rattle.c_type_names.specs.TypeReading as types;
+ghost use Rattle.c_grouping.specs.Grouping as grouping;
+ghost use Rattle.c_type_names.specs.Held.{ReadsAfter};
 ghost use Rattle.c_grammar.specs.declared.expression.Assign.TheVariants as a;
 ghost use Rattle.c_expressions.specs.ExpressionReading as spec;
 
-use crate::chain::{chain, links, run};
-use crate::group::{Flat, boxed_or_of};
-use crate::held::{instead, then_expect, then_operator};
-use crate::types::type_name;
 use c_grammar::chain::{Chain, Link};
 use c_grammar::cursor::{Cursor, same};
 use c_grammar::expression::{Assign, Choice, Or, Postfix, Primary, Suffix, Unary};
@@ -25,6 +21,10 @@ use c_grammar::fault::ParseFault;
 use c_grammar::operators::Operators;
 use c_grammar::types::TypeName;
 use c_grammar::word::{Leaf, Word};
+use c_grouping::group::{Flat, boxed_or_of};
+use c_type_names::chain::{Operand, Part, chain, links, run};
+use c_type_names::held::{instead, then_expect, then_operator, unless_refused};
+use c_type_names::types::type_name;
 use sqlite_items::{Boxed, Items};
 use std::alloc::Global;
 
@@ -45,8 +45,9 @@ fn begins_type(word: Word) -> bool
     )
 }
 
-fn is_cast(first: Word, second: Word) -> bool
-    ensures { result ≡ spec.is_cast first second }
+/// Whether these words begin a type in parentheses.
+fn begins_cast(first: Word, second: Word) -> bool
+    ensures { result ≡ spec.begins_cast first second }
 {
     same(Word::LeftParen, first) && begins_type(second)
 }
@@ -150,11 +151,7 @@ impl<
         if same(Word::RightParen, tokens.peek()) {
             return Ok(None);
         }
-        let operand = |tokens: &mut Cursor<'_>| -> Result<Assign, ParseFault>
-            requires { Nests (spec.inner_at self.now.depth).assign self.now.depth (A.pre self.now.assign) (A.post self.now.assign) }
-            ensures { Reads ((spec.inner_at self.entry.now.depth).assign tokens.old) result tokens.new }
-        { (self.assign)(self.alloc, tokens, self.depth) };
-        let found = chain(self.alloc, tokens, Operators::List, &operand)?;
+        let found: Chain<Assign> = chain(self.alloc, tokens, Operators::List, self)?;
         Ok(Some(Boxed::new(self.alloc, found)?))
     }
 
@@ -263,14 +260,7 @@ impl<
         requires { Nests (spec.inner_at self.now.depth).assign self.now.depth (A.pre self.now.assign) (A.post self.now.assign) }
         ensures { Reads (run_at spec.is_suffix (spec.suffix (spec.inner_at self.now.depth)) tokens.old) result tokens.new }
     {
-        let begins = |word: Word| -> bool
-            ensures { result ≡ spec.is_suffix word }
-        { is_suffix(word) };
-        let suffix = |tokens: &mut Cursor<'_>| -> Result<Suffix, ParseFault>
-            requires { Nests (spec.inner_at self.now.depth).assign self.now.depth (A.pre self.now.assign) (A.post self.now.assign) }
-            ensures { Reads (spec.suffix (spec.inner_at self.entry.now.depth) tokens.old) result tokens.new }
-        { self.suffix(tokens) };
-        run(self.alloc, tokens, &begins, &suffix)
+        run(self.alloc, tokens, self)
     }
 
     /// Suffixes, where `held` was read before.
@@ -327,13 +317,6 @@ impl<
         self.prefix(tokens)
     }
 
-    fn cast_type(&self, tokens: &mut Cursor<'_>) -> Result<Boxed<TypeName>, ParseFault>
-        ensures { Reads (types.type_name self.now.depth tokens.old) result tokens.new }
-    {
-        let found = type_name(self.alloc, tokens, self.depth)?;
-        Ok(Boxed::new(self.alloc, found)?)
-    }
-
     #[inline(never)]
     #[tactic(auto, unfolding(crate::specs::ExpressionReading::cast), using(crate::proofs::Depths::inner_depth))]
     fn cast(&self, tokens: &mut Cursor<'_>) -> Result<Unary, ParseFault>
@@ -341,7 +324,7 @@ impl<
         ensures { Reads (spec.cast (spec.inner_at self.now.depth) tokens.old) result tokens.new }
     {
         let opening = tokens.expect(Word::LeftParen)?;
-        let kind = self.cast_type(tokens)?;
+        let kind = boxed_type(self.alloc, tokens, self.depth)?;
         let (kind, closing) = then_expect(kind, tokens, Word::RightParen)?;
         let (kind, operand) = self.then_unary(kind, tokens)?;
         Ok(Unary::Cast(opening, kind, closing, operand))
@@ -358,6 +341,51 @@ impl<
         self.cast(tokens)
     }
 
+    #[inline(never)]
+    #[tactic(auto, unfolding(crate::specs::ExpressionReading::size_of_type), using(crate::proofs::Depths::inner_depth))]
+    fn size_of_type(&self, tokens: &mut Cursor<'_>, first: Leaf) -> Result<Unary, ParseFault>
+        ensures { Reads (spec.size_of_type (spec.inner_at self.now.depth) first tokens.old) result tokens.new }
+    {
+        let opening = tokens.expect(Word::LeftParen)?;
+        let kind = boxed_type(self.alloc, tokens, self.depth)?;
+        let (kind, closing) = then_expect(kind, tokens, Word::RightParen)?;
+        Ok(Unary::SizeOfType(first, opening, kind, closing))
+    }
+
+    #[tactic(auto, unfolding(crate::specs::ExpressionReading::size_of_operand))]
+    fn size_of_operand(&self, tokens: &mut Cursor<'_>, first: Leaf) -> Result<Unary, ParseFault>
+        requires { Nests (spec.inner_at self.now.depth).unary self.now.depth (U.pre self.now.unary) (U.post self.now.unary) }
+        ensures { Reads (spec.size_of_operand (spec.inner_at self.now.depth) first tokens.old) result tokens.new }
+    {
+        let operand = self.nested_unary(tokens)?;
+        Ok(Unary::SizeOf(first, operand))
+    }
+
+    #[inline(never)]
+    #[tactic(auto, unfolding(crate::specs::ExpressionReading::size))]
+    fn size(&self, tokens: &mut Cursor<'_>) -> Result<Unary, ParseFault>
+        requires { Nests (spec.inner_at self.now.depth).unary self.now.depth (U.pre self.now.unary) (U.post self.now.unary) }
+        ensures { Reads (spec.size (spec.inner_at self.now.depth) tokens.old) result tokens.new }
+    {
+        let first = tokens.expect(Word::SizeOf)?;
+        if begins_cast(tokens.peek(), tokens.second()) {
+            self.size_of_type(tokens, first)
+        } else {
+            self.size_of_operand(tokens, first)
+        }
+    }
+
+    #[tactic(auto, using(crate::proofs::Depths::deep_none, crate::proofs::Depths::deep_some))]
+    fn deep_size(&self, tokens: &mut Cursor<'_>) -> Result<Unary, ParseFault>
+        requires { Nests (spec.inner_at self.now.depth).unary self.now.depth (U.pre self.now.unary) (U.post self.now.unary) }
+        ensures { Reads (spec.deep (spec.inner_at self.now.depth).depth (spec.size (spec.inner_at self.now.depth)) tokens.old) result tokens.new }
+    {
+        if self.depth == 0 {
+            return Err(tokens.refuse());
+        }
+        self.size(tokens)
+    }
+
     #[tactic(auto, unfolding(crate::specs::ExpressionReading::unary))]
     fn unary(&self, tokens: &mut Cursor<'_>) -> Result<Unary, ParseFault>
         requires assign { Nests (spec.inner_at self.now.depth).assign self.now.depth (A.pre self.now.assign) (A.post self.now.assign) }
@@ -367,7 +395,9 @@ impl<
         let first = tokens.peek();
         if Operators::Prefix.has(first) {
             self.deep_prefix(tokens)
-        } else if is_cast(first, tokens.second()) {
+        } else if same(Word::SizeOf, first) {
+            self.deep_size(tokens)
+        } else if begins_cast(first, tokens.second()) {
             self.deep_cast(tokens)
         } else {
             Ok(Unary::Postfix(self.postfix(tokens)?))
@@ -381,12 +411,7 @@ impl<
         ensures { Reads (links_from (continues o.Binary) (has o.Binary) (spec.unary (spec.inner_at self.now.depth)) (length tokens.old) [] tokens.old)
             (result_map_both (λ v. v.items) (λ e. e) result) tokens.new }
     {
-        let operand = |tokens: &mut Cursor<'_>| -> Result<Unary, ParseFault>
-            requires assign { Nests (spec.inner_at self.now.depth).assign self.now.depth (A.pre self.now.assign) (A.post self.now.assign) }
-            requires unary { Nests (spec.inner_at self.now.depth).unary self.now.depth (U.pre self.now.unary) (U.post self.now.unary) }
-            ensures { Reads (spec.unary (spec.inner_at self.entry.now.depth) tokens.old) result tokens.new }
-        { self.unary(tokens) };
-        links(self.alloc, tokens, Operators::Binary, &operand)
+        links(self.alloc, tokens, Operators::Binary, self)
     }
 
     /// The same, where `held` was read before.
@@ -517,7 +542,7 @@ impl<
         requires { Nests (spec.inner_at self.now.depth).assign self.now.depth (A.pre self.now.assign) (A.post self.now.assign) }
         ensures { Reads (spec.assigned_to (spec.inner_at self.now.depth) found tokens.old) result tokens.new }
     {
-        let left = found.lone(tokens)?;
+        let left = lone(found, tokens)?;
         self.deep_assigned(tokens, left)
     }
 
@@ -552,6 +577,76 @@ impl<
         let found = self.flat(tokens)?;
         self.assign_after(tokens, found)
     }
+}
+
+impl<
+    A: Fn(Global, &mut Cursor<'_>, usize) -> Result<Assign, ParseFault>,
+    C: Fn(Global, &mut Cursor<'_>, usize) -> Result<Choice, ParseFault>,
+    U: Fn(Global, &mut Cursor<'_>, usize) -> Result<Unary, ParseFault>,
+> Operand<Assign> for Grammar<A, C, U> {
+    ghost can_read = { λ g. Nests (spec.inner_at g.depth).assign g.depth (A.pre g.assign) (A.post g.assign) };
+
+    ghost parser = { λ g. (spec.inner_at g.depth).assign };
+
+    fn operand(&self, tokens: &mut Cursor<'_>) -> Result<Assign, ParseFault> {
+        (self.assign)(self.alloc, tokens, self.depth)
+    }
+}
+
+impl<
+    A: Fn(Global, &mut Cursor<'_>, usize) -> Result<Assign, ParseFault>,
+    C: Fn(Global, &mut Cursor<'_>, usize) -> Result<Choice, ParseFault>,
+    U: Fn(Global, &mut Cursor<'_>, usize) -> Result<Unary, ParseFault>,
+> Operand<Unary> for Grammar<A, C, U> {
+    ghost can_read = { λ g. Nests (spec.inner_at g.depth).assign g.depth (A.pre g.assign) (A.post g.assign) × Nests (spec.inner_at g.depth).unary g.depth (U.pre g.unary) (U.post g.unary) };
+
+    ghost parser = { λ g. spec.unary (spec.inner_at g.depth) };
+
+    fn operand(&self, tokens: &mut Cursor<'_>) -> Result<Unary, ParseFault> {
+        self.unary(tokens)
+    }
+}
+
+impl<
+    A: Fn(Global, &mut Cursor<'_>, usize) -> Result<Assign, ParseFault>,
+    C: Fn(Global, &mut Cursor<'_>, usize) -> Result<Choice, ParseFault>,
+    U: Fn(Global, &mut Cursor<'_>, usize) -> Result<Unary, ParseFault>,
+> Part<Suffix> for Grammar<A, C, U> {
+    ghost can_read = { λ g. Nests (spec.inner_at g.depth).assign g.depth (A.pre g.assign) (A.post g.assign) };
+
+    ghost begins = { λ _. spec.is_suffix };
+
+    ghost parser = { λ g. spec.suffix (spec.inner_at g.depth) };
+
+    fn begins(&self, word: Word) -> bool {
+        is_suffix(word)
+    }
+
+    fn part(&self, tokens: &mut Cursor<'_>) -> Result<Suffix, ParseFault> {
+        self.suffix(tokens)
+    }
+}
+
+/// A name of a type, in a box.
+fn boxed_type(
+    alloc: Global,
+    tokens: &mut Cursor<'_>,
+    depth: usize,
+) -> Result<Boxed<TypeName>, ParseFault>
+    ensures { Reads (types.type_name depth tokens.old) result tokens.new }
+{
+    let found = type_name(alloc, tokens, depth)?;
+    Ok(Boxed::new(alloc, found)?)
+}
+
+/// The operand, or a fault at the next token where operators follow it.
+fn lone(found: Flat, tokens: &Cursor<'_>) -> Result<Unary, ParseFault>
+    ensures { Reads (spec.lone found.first found.rest tokens.now) result tokens.now }
+{
+    let Flat { first, rest } = found;
+    let refused = !rest.is_empty();
+    let first = instead(rest, first);
+    unless_refused(first, tokens, refused)
 }
 
 #[tactic(auto, unfolding(crate::specs::ExpressionReading::member))]

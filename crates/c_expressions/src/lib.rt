@@ -1,10 +1,5 @@
-//! Reading of types and expressions.
+//! Reading of expressions.
 #![tactic(auto)]
 
-pub mod chain;
 pub mod exactness;
 pub mod expression;
-pub mod group;
-pub mod held;
-pub mod nesting;
-pub mod types;

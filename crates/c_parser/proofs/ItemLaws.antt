@@ -29,9 +29,9 @@ use Rattle.c_grammar.specs.Parsing.{Leaves, Outcome, Parser, and_then, ◌>>=◌
 use Rattle.c_grammar.proofs.Taking.{Takes-nothing, nothing-Takes, Takes-then, Split, then-Takes, one-Takes, Takes-nested, nested-Takes, both, first_of_both, second_of_both}
 use Rattle.c_grammar.proofs.Reading.{finish, after-one, bind_ok, gives_bind, chosen, choose, refuse_test, same_pair, Sound, Complete, Ends, Starts, take_if-takes, take_if-gives, take_if-word, first_of_neither, second_of_neither, at_one, word_is}
 use Rattle.c_grammar.proofs.Runs.{run-Sound, run-Complete, tokens-Sound, tokens-Complete}
-use Rattle.c_expressions.specs.TypeReading.{begins_type, goes_on_base, stars_from}
-use Rattle.c_expressions.specs.TypeReading as t
-use Rattle.c_expressions.proofs.TypeLaws.{base-Sound, base-Complete, base-Starts, consts-Sound, consts-Complete, stars-Sound, stars-Complete, star-word}
+use Rattle.c_type_names.specs.TypeReading.{begins_type, goes_on_base, stars_from}
+use Rattle.c_type_names.specs.TypeReading as t
+use Rattle.c_type_names.proofs.TypeLaws.{base-Sound, base-Complete, base-Starts, consts-Sound, consts-Complete, stars-Sound, stars-Complete, star-word}
 use Rattle.c_declarations.specs.DeclaratorReading.{begins_declarator}
 use Rattle.c_declarations.specs.DeclaredReading as d
 use Rattle.c_declarations.specs.ParameterReading as q

@@ -28,8 +28,8 @@ use Rattle.c_grammar.proofs.Taking.{nothing-Takes, Takes-then, then-Takes, one-T
 use Rattle.c_grammar.proofs.Reading.{after-one, take_if-word, word_is, Starts}
 use Rattle.c_declarations.specs.DeclaratorReading.{begins_direct, begins_declarator}
 use Rattle.c_grammar.proofs.DeclaratorShapes.{direct_cases, direct-Name, direct-Unsized, direct-Paren, direct-Array, declarator-is}
-use Rattle.c_expressions.specs.TypeReading.{begins_integer, begins_type}
-use Rattle.c_expressions.proofs.TypeLaws.{integer-Starts, base-Starts, star-word}
+use Rattle.c_type_names.specs.TypeReading.{begins_integer, begins_type}
+use Rattle.c_type_names.proofs.TypeLaws.{integer-Starts, base-Starts, star-word}
 use Rattle.c_parser.specs.ItemReading as read
 use Rattle.c_parser.specs.ItemReading.{skip, is_pointer, is_called, leading_stars, all_variable_prefixes, is_struct}
 use Rattle.c_declarations.proofs.DeclaratorLaws.{direct-Starts}

@@ -19,7 +19,7 @@ use Rattle.c_grammar.specs.declared.program.ProgramTree.{ProgramTree}
 use Rattle.c_grammar.specs.Words.{same, leaves_of}
 use Rattle.c_grammar.specs.Programs.{is_variable_prefix, is_function_prefix, is_empty, all_named, nesting_limit}
 use Rattle.c_grammar.specs.Parsing.{Parser, Leaves, ◌>>=◌, ◌>>◌, ◌<$>◌, pure, refuse, word_at, after, peek, take_if, expect, run_at}
-use Rattle.c_expressions.specs.TypeReading.{consts, base, stars_from, begins_type}
+use Rattle.c_type_names.specs.TypeReading.{consts, base, stars_from, begins_type}
 use Rattle.c_declarations.specs.DeclaredReading.{all_declared, declarators}
 use Rattle.c_declarations.specs.ParameterReading.{params}
 use Rattle.c_statements.specs.StatementReading.{block_at, unless}

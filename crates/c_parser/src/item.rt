@@ -6,15 +6,15 @@ ghost use Rattle.c_grammar.specs.Programs as grammar;
 ghost use Rattle.c_grammar.specs.Parsing.{Reads, take_if, run_at};
 ghost use Rattle.c_statements.specs.StatementReading.{unless};
 ghost use Rattle.c_declarations.specs.DeclaredReading as declared_spec;
-ghost use Rattle.c_expressions.specs.Held.{ReadsAfter};
+ghost use Rattle.c_type_names.specs.Held.{ReadsAfter};
 ghost use Rattle.c_parser.specs.ItemReading as spec;
 
 use crate::look::{begins_function, begins_type, is_function_prefix, is_struct};
 use c_declarations::declared::{all_declared, then_all_declared, then_declarators};
 use c_declarations::parameter::then_params;
-use c_expressions::chain::run;
-use c_expressions::held::{then_base, then_expect, then_stars, unless_refused};
-use c_expressions::types::consts;
+use c_type_names::chain::{Part, run};
+use c_type_names::held::{then_base, then_expect, then_stars, unless_refused};
+use c_type_names::types::consts;
 use c_grammar::chain::{Chain, Link};
 use c_grammar::cursor::{Cursor, same};
 use c_grammar::declaration::{Declared, Parameter, Params};
@@ -42,7 +42,7 @@ fn begins_member(word: Word) -> bool
     same(Word::Const, word) || begins_type(word)
 }
 
-pub(crate) fn begins_item(word: Word) -> bool
+fn begins_item(word: Word) -> bool
     ensures { result ≡ spec.begins_item word }
 {
     matches!(word, Word::Meta | Word::Ghost) || is_function_prefix(word) || begins_type(word)
@@ -87,10 +87,29 @@ fn all_named(params: &Params) -> bool
     }
 }
 
+/// Reads `static`, `extern` and `const`.
+struct Prefix;
+
+impl Part<Leaf> for Prefix {
+    ghost can_read = { λ _. Unit {0} };
+
+    ghost begins = { λ _. grammar.is_function_prefix };
+
+    ghost parser = { λ _. take_if grammar.is_function_prefix };
+
+    fn begins(&self, word: Word) -> bool {
+        is_function_prefix(word)
+    }
+
+    fn part(&self, tokens: &mut Cursor<'_>) -> Result<Leaf, ParseFault> {
+        prefix(tokens)
+    }
+}
+
 fn prefixes(alloc: Global, tokens: &mut Cursor<'_>) -> Result<Items<Leaf>, ParseFault>
     ensures { Reads (run_at grammar.is_function_prefix (take_if grammar.is_function_prefix) tokens.old) result tokens.new }
 {
-    run(alloc, tokens, &is_function_prefix, &prefix)
+    run(alloc, tokens, &Prefix)
 }
 
 impl ItemReader {
@@ -121,10 +140,7 @@ impl ItemReader {
     fn some_members(&self, tokens: &mut Cursor<'_>) -> Result<Items<Member>, ParseFault>
         ensures { Reads (run_at spec.begins_member (spec.member self.now.depth self.now.inside) tokens.old) result tokens.new }
     {
-        let member = |tokens: &mut Cursor<'_>| -> Result<Member, ParseFault>
-            ensures { Reads (spec.member self.entry.now.depth self.entry.now.inside tokens.old) result tokens.new }
-        { self.member(tokens) };
-        run(self.alloc, tokens, &begins_member, &member)
+        run(self.alloc, tokens, self)
     }
 
     /// A struct has a member.
@@ -279,5 +295,37 @@ impl ItemReader {
             Word::Ghost => Ok(Item::Ghost(tokens.expect(Word::Ghost)?)),
             _ => self.declaration(tokens),
         }
+    }
+}
+
+impl Part<Member> for ItemReader {
+    ghost can_read = { λ _. Unit {0} };
+
+    ghost begins = { λ _. spec.begins_member };
+
+    ghost parser = { λ r. spec.member r.depth r.inside };
+
+    fn begins(&self, word: Word) -> bool {
+        begins_member(word)
+    }
+
+    fn part(&self, tokens: &mut Cursor<'_>) -> Result<Member, ParseFault> {
+        self.member(tokens)
+    }
+}
+
+impl Part<Item> for ItemReader {
+    ghost can_read = { λ _. Unit {0} };
+
+    ghost begins = { λ _. spec.begins_item };
+
+    ghost parser = { λ r. spec.item r.depth r.inside };
+
+    fn begins(&self, word: Word) -> bool {
+        begins_item(word)
+    }
+
+    fn part(&self, tokens: &mut Cursor<'_>) -> Result<Item, ParseFault> {
+        self.item(tokens)
     }
 }

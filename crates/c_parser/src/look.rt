@@ -4,7 +4,7 @@ ghost use Rattle.std.specs.Prelude.{◌≡◌, ◌≤◌, if◌then◌else◌, l
 ghost use Rattle.c_grammar.specs.declared.word.Word.TheVariants as w;
 ghost use Rattle.c_grammar.specs.Words.{same as same_word};
 ghost use Rattle.c_grammar.specs.Programs as grammar;
-ghost use Rattle.c_expressions.specs.TypeReading as types;
+ghost use Rattle.c_type_names.specs.TypeReading as types;
 ghost use Rattle.c_parser.specs.ItemReading as spec;
 
 use c_grammar::cursor::{Cursor, same};

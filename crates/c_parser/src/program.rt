@@ -6,9 +6,9 @@ ghost use Rattle.c_grammar.specs.Parsing.{Reads, IsSyntax};
 ghost use Rattle.c_parser.specs.ItemReading as spec;
 ghost use Rattle.c_parser.specs.ItemReading.{IsWhole};
 
-use crate::item::{ItemReader, begins_item};
-use c_expressions::chain::run;
-use c_expressions::held::unless_refused;
+use crate::item::ItemReader;
+use c_type_names::chain::run;
+use c_type_names::held::unless_refused;
 use c_grammar::cursor::Cursor;
 use c_grammar::fault::ParseFault;
 use c_grammar::leaf::leaves_of;
@@ -38,10 +38,7 @@ fn items(alloc: Global, tokens: &mut Cursor<'_>, mode: Mode) -> Result<Items<Ite
         depth: inside + 1,
         inside,
     };
-    let item = |tokens: &mut Cursor<'_>| -> Result<Item, ParseFault>
-        ensures { Reads (spec.item reader.depth reader.inside tokens.old) result tokens.new }
-    { reader.item(tokens) };
-    run(alloc, tokens, &begins_item, &item)
+    run(alloc, tokens, &reader)
 }
 
 fn whole(

@@ -16,15 +16,15 @@ use Rattle.c_grammar.specs.Statements.{local}
 use Rattle.c_grammar.specs.Parsing.{Leaves, word_at, take_if, expect}
 use Rattle.c_grammar.proofs.Taking.{nothing-Takes, Takes-then, then-Takes}
 use Rattle.c_grammar.proofs.Reading.{bind_ok, gives_bind, chosen, choose, refuse_test, Sound, Complete, Starts, take_if-takes, take_if-gives, take_if-word, finish, at_word, at_one, word_is}
-use Rattle.c_expressions.specs.TypeReading as types
-use Rattle.c_expressions.specs.TypeReading.{begins_type, goes_on_base}
+use Rattle.c_type_names.specs.TypeReading as types
+use Rattle.c_type_names.specs.TypeReading.{begins_type, goes_on_base}
 use Rattle.c_declarations.specs.DeclaratorReading.{begins_declarator}
 use Rattle.c_declarations.specs.DeclaredReading as declared
 use Rattle.c_declarations.specs.DeclaredReading.{goes_on_declared}
 use Rattle.c_statements.specs.StatementReading as read
 use Rattle.c_statements.specs.StatementReading.{begins_local}
 use Rattle.c_statements.proofs.Deep.{deep-takes, deep_gives}
-use Rattle.c_expressions.proofs.TypeLaws.{base-Sound, base-Complete, base-Starts, consts-Sound, consts-Complete}
+use Rattle.c_type_names.proofs.TypeLaws.{base-Sound, base-Complete, base-Starts, consts-Sound, consts-Complete}
 use Rattle.c_declarations.proofs.DeclaredLaws.{all_declared-Sound, all_declared-Complete, all_declared-Starts}
 
 -- what is declared, and the `;`

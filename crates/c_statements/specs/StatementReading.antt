@@ -20,7 +20,7 @@ use Rattle.c_statements.specs.declared.head.Control.{Control}
 use Rattle.c_grammar.specs.Words.{same}
 use Rattle.c_grammar.specs.Statements.{is_dangling}
 use Rattle.c_grammar.specs.Parsing.{Parser, ◌>>=◌, ◌<$>◌, pure, refuse, peek, expect, run_at}
-use Rattle.c_expressions.specs.TypeReading.{consts, base, begins_type}
+use Rattle.c_type_names.specs.TypeReading.{consts, base, begins_type}
 use Rattle.c_expressions.specs.ExpressionReading.{inner_at, deep, begins_expression}
 use Rattle.c_declarations.specs.DeclaredReading.{all_declared}
 

@@ -2,12 +2,12 @@
 
 ghost use Rattle.std.specs.Prelude.{◌≡◌};
 ghost use Rattle.c_grammar.specs.Parsing.{Reads};
-ghost use Rattle.c_expressions.specs.Held.{ReadsAfter};
+ghost use Rattle.c_type_names.specs.Held.{ReadsAfter};
 ghost use Rattle.c_statements.specs.StatementReading as spec;
 
 use c_declarations::declared::all_declared;
-use c_expressions::held::{then_base, then_expect};
-use c_expressions::types::{base, consts};
+use c_type_names::held::{then_base, then_expect};
+use c_type_names::types::{base, consts};
 use c_grammar::chain::Chain;
 use c_grammar::cursor::{Cursor, same};
 use c_grammar::declaration::Declared;

@@ -7,7 +7,7 @@ ghost use Rattle.c_grammar.specs.declared.word.Word.TheVariants as w;
 ghost use Rattle.c_grammar.specs.Parsing.{Reads, and_then, pure, run_at};
 ghost use Rattle.c_grammar.specs.Follows.{Nests};
 ghost use Rattle.c_expressions.specs.ExpressionReading.{deep, inner_at};
-ghost use Rattle.c_expressions.specs.Held.{ReadsAfter};
+ghost use Rattle.c_type_names.specs.Held.{ReadsAfter};
 ghost use Rattle.c_statements.specs.StatementReading as spec;
 ghost use Rattle.c_statements.specs.StatementReading.{stmt_at, at_level};
 
@@ -17,7 +17,7 @@ use crate::made::{do_of, for_of, if_else_of, if_of, push_local, push_stmt, while
 use crate::part::begins_part;
 use crate::value::{then_up_to, up_to};
 use c_expressions::expression::assign;
-use c_expressions::held::{boxed, then_expect};
+use c_type_names::held::{boxed, then_expect};
 use c_grammar::cursor::{Cursor, same};
 use c_grammar::fault::ParseFault;
 use c_grammar::statement::{Block, BlockPart, ForFirst, Local, Stmt};

@@ -2,11 +2,11 @@
 
 ghost use Rattle.c_grammar.specs.Parsing.{Reads};
 ghost use Rattle.c_expressions.specs.ExpressionReading.{inner_at};
-ghost use Rattle.c_expressions.specs.Held.{ReadsAfter};
+ghost use Rattle.c_type_names.specs.Held.{ReadsAfter};
 ghost use Rattle.c_statements.specs.StatementReading as spec;
 
 use c_expressions::expression::assign;
-use c_expressions::held::then_expect;
+use c_type_names::held::then_expect;
 use c_grammar::cursor::{Cursor, same};
 use c_grammar::expression::Assign;
 use c_grammar::fault::ParseFault;

@@ -1,6 +1,0 @@
-use Rattle.std.proofs.Common.{◌≡◌, [], ◌-◌}
-use Rattle.c_expressions.specs.TypeReading.{stars_from}
-use Rattle.c_expressions.proofs.types.stars.Given as goal
-
-abbrev pub invariant-loop-turn : goal.invariant-loop-turn
-invariant-loop-turn l = stars_from l.limit [] l.fn.tokens ≡ stars_from (l.limit - l._turn) l.found l.tokens

@@ -1,0 +1,2 @@
+pub mod GroupingLaws
+pub mod GroupSteps

@@ -1,0 +1,4 @@
+//! Operands with operators of all levels between them, grouped by the levels.
+#![tactic(auto)]
+
+pub mod group;

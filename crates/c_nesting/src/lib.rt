@@ -1,0 +1,4 @@
+//! Whether expressions nest below a limit.
+#![tactic(auto)]
+
+pub mod nesting;
