@@ -3,8 +3,8 @@
 ghost use Rattle.std.specs.Prelude.{◌≡◌, nat_lt};
 ghost use Rattle.c_grammar.specs.Declarations as grammar;
 
-use c_nesting::nesting::choice_fits;
 use c_grammar::declaration::{Declarator, Direct, Sizes};
+use c_nesting::nesting::choice_fits;
 
 #[cycle(fits)]
 #[tactic(auto, using(crate::proofs::NestingLaws::fits_name, crate::proofs::NestingLaws::fits_unsized, crate::proofs::NestingLaws::fits_paren, crate::proofs::NestingLaws::fits_array))]
