@@ -6,11 +6,11 @@ ghost use Rattle.c_declarations.specs.Brackets as spec;
 ghost use Rattle.c_type_names.specs.Held.{ReadsAfter};
 
 use c_expressions::expression::choice;
-use c_type_names::held::then_expect;
 use c_grammar::cursor::Cursor;
 use c_grammar::expression::Choice;
 use c_grammar::fault::ParseFault;
 use c_grammar::word::{Leaf, Word};
+use c_type_names::held::then_expect;
 use std::alloc::Global;
 
 /// `[`, a size, `]`.

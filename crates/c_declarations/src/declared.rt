@@ -9,19 +9,19 @@ ghost use Rattle.c_type_names.specs.Held.{ReadsAfter};
 
 use crate::declarator::declarator;
 use crate::init::then_init;
-use c_type_names::chain::{Operand, chain};
-use c_type_names::held::{then_expect, unless_refused};
 use c_grammar::chain::Chain;
 use c_grammar::cursor::{Cursor, same};
 use c_grammar::declaration::{Declarator, Declared, Direct};
 use c_grammar::fault::ParseFault;
 use c_grammar::operators::Operators;
 use c_grammar::word::Word;
+use c_type_names::chain::{Operand, chain};
+use c_type_names::held::{then_expect, unless_refused};
 use sqlite_items::Items;
 use std::alloc::Global;
 
 #[cycle(emptiness)]
-#[tactic(auto, using(crate::proofs::UnsizedLaws::unsized_name, crate::proofs::NestingLaws::unsized_empty, crate::proofs::NestingLaws::unsized_paren, crate::proofs::NestingLaws::unsized_array))]
+#[tactic(auto, using(crate::proofs::UnsizedLaws::unsized_name, crate::proofs::UnsizedLaws::unsized_empty, crate::proofs::UnsizedLaws::unsized_paren, crate::proofs::UnsizedLaws::unsized_array))]
 fn direct_is_unsized(tree: &Direct) -> bool
     ensures { result ≡ (grammar.direct_shape tree.now).unsized }
 {
@@ -114,7 +114,13 @@ impl Operand<Declarator> for DeclaredReader {
     ghost parser = { λ r. declarator_from false r.depth [] };
 
     fn operand(&self, tokens: &mut Cursor<'_>) -> Result<Declarator, ParseFault> {
-        declarator(self.alloc, tokens, false, self.depth, Items::new(self.alloc))
+        declarator(
+            self.alloc,
+            tokens,
+            false,
+            self.depth,
+            Items::new(self.alloc),
+        )
     }
 }
 
@@ -127,7 +133,12 @@ pub fn all_declared(
 ) -> Result<Chain<Declared>, ParseFault>
     ensures { Reads (spec.all_declared depth tokens.old) result tokens.new }
 {
-    chain(alloc, tokens, Operators::List, &DeclaredReader { alloc, depth })
+    chain(
+        alloc,
+        tokens,
+        Operators::List,
+        &DeclaredReader { alloc, depth },
+    )
 }
 
 /// Declarators whose `[ ]` are not empty, one after another, each nesting below `depth`.
@@ -139,7 +150,12 @@ pub fn declarators(
 ) -> Result<Chain<Declarator>, ParseFault>
     ensures { Reads (spec.declarators depth tokens.old) result tokens.new }
 {
-    chain(alloc, tokens, Operators::List, &DeclaredReader { alloc, depth })
+    chain(
+        alloc,
+        tokens,
+        Operators::List,
+        &DeclaredReader { alloc, depth },
+    )
 }
 
 /// What a declaration declares, where `held` was read before.

@@ -6,15 +6,15 @@ ghost use Rattle.c_grammar.specs.Parsing.{Reads};
 ghost use Rattle.c_type_names.specs.Held.{ReadsAfter};
 ghost use Rattle.c_declarations.specs.DeclaredReading as spec;
 
-use c_type_names::chain::{Operand, chain};
 use c_expressions::expression::assign;
-use c_type_names::held::{then_expect, then_optional};
 use c_grammar::chain::Chain;
 use c_grammar::cursor::{Cursor, same};
 use c_grammar::declaration::Init;
 use c_grammar::fault::ParseFault;
 use c_grammar::operators::Operators;
 use c_grammar::word::Word;
+use c_type_names::chain::{Operand, chain};
+use c_type_names::held::{then_expect, then_optional};
 use sqlite_items::Boxed;
 use std::alloc::Global;
 
@@ -26,7 +26,8 @@ pub struct ElementReader<I> {
     element: I,
 }
 
-impl<I: Fn(Global, &mut Cursor<'_>, usize) -> Result<Init, ParseFault>> Operand<Init> for ElementReader<I> {
+impl<I: Fn(Global, &mut Cursor<'_>, usize) -> Result<Init, ParseFault>> Operand<Init>
+    for ElementReader<I> {
     ghost can_read = { λ r. Nests (spec.init_at r.inside) r.inside (I.pre r.element) (I.post r.element) };
 
     ghost parser = { λ r. spec.init_at r.inside };

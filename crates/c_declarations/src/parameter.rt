@@ -10,9 +10,6 @@ ghost use Rattle.c_declarations.specs.ParameterReading as spec;
 
 use crate::declarator::then_declarator;
 use crate::sizes::then_sizes;
-use c_type_names::chain::{Operand, chain};
-use c_type_names::held::{instead, then_base, then_stars};
-use c_type_names::types::consts;
 use c_grammar::chain::Chain;
 use c_grammar::cursor::{Cursor, same};
 use c_grammar::declaration::{Parameter, Params, Sizes};
@@ -20,6 +17,9 @@ use c_grammar::fault::ParseFault;
 use c_grammar::operators::Operators;
 use c_grammar::types::{Base, Specifier, Star};
 use c_grammar::word::{Leaf, Word};
+use c_type_names::chain::{Operand, chain};
+use c_type_names::held::{instead, then_base, then_stars};
+use c_type_names::types::consts;
 use sqlite_items::Items;
 use std::alloc::Global;
 
@@ -135,7 +135,12 @@ fn parameter_list(
 ) -> Result<Chain<Parameter>, ParseFault>
     ensures { Reads (chain_at is_comma (spec.parameter depth) tokens.old) result tokens.new }
 {
-    chain(alloc, tokens, Operators::List, &ParameterReader { alloc, depth })
+    chain(
+        alloc,
+        tokens,
+        Operators::List,
+        &ParameterReader { alloc, depth },
+    )
 }
 
 fn void_of(specifier: Specifier) -> Option<Leaf>
