@@ -270,7 +270,7 @@ module _ (q : Core) (k : ℕ) where
   tells_calls zero g vs = call_tells_alone [] (tells_stop More)
   tells_calls (suc depth) g vs = tells_call_of (ca.calls resting q k depth) (ca.calls direct q k depth) (tells_calls depth) g (slice_get q.functions g) vs
 
-after_exit : (b : CallGives) → rest_after_call b (λ v s. Stop (exit_of v)) ≡ trace_of (logged_by b)
+pub after_exit : (b : CallGives) → rest_after_call b (λ v s. Stop (exit_of v)) ≡ trace_of (logged_by b)
 after_exit (ReturnedCall v w) = refl
 after_exit (Ended e l) = refl
 

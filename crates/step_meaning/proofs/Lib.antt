@@ -43,3 +43,5 @@ pub mod FoldPrefixes
 pub mod TracedPrefixes
 pub mod JudgedExamples
 pub mod AcceptedExamples
+pub mod RelatedFlows
+pub mod StrictRuns

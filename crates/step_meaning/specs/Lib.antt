@@ -47,3 +47,4 @@ pub mod Fit
 pub mod FitsBounded
 pub mod FoldPrefixes
 pub mod TracedPrefixes
+pub mod Strict
