@@ -20,8 +20,9 @@ use Rattle.step_meaning.specs.Verdicts.{accept_verdicts}
 use Rattle.step_meaning.specs.Fit.{is_enter_place}
 use Rattle.step_meaning.specs.Fold.{ghosts_after_code, verdicts_of_code, cells_at, with_new_frame, unset_saves}
 use Rattle.weaver_laws.specs.Weaving.{Substitution, code_for, code_before}
-use Rattle.weaver_laws.proofs.HookSights.{MemoryInside, StepParts, sight_in_fold, SubstitutesStep}
-use Rattle.weaver_laws.proofs.GhostImages.{image, OthersUnchanged}
+use Rattle.weaver_laws.proofs.HookSights.{StepParts, sight_in_fold, SubstitutesStep}
+use Rattle.weaver_laws.proofs.InsideMemories.{MemoryInside}
+use Rattle.weaver_laws.proofs.GhostFrames.{image, OthersUnchanged}
 use Rattle.weaver_laws.proofs.TraceSimulation.{all_safe, all_safe_append, accept_append, VerdictsMatch, step_parts, CodeFits, code_after, IsProper, TraceSimulated, step_verdicts, step_ghosts, code_simulated}
 use Rattle.weaver_laws.proofs.ChangedCode.{place_of, code_at_place, PointReady, code_for_fits, AreChangedAssertions, changed_assertions, changed_implied}
 

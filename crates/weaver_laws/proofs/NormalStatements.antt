@@ -45,14 +45,16 @@ use Rattle.step_meaning.specs.Statements as sm
 use Rattle.step_meaning.specs.TypeRules.{is_scalar}
 use Rattle.step_meaning.specs.Conversions.{same_int_kind}
 use Rattle.weaver_laws.specs.Weaving.{Substitution, code_for, code_before, changed_code, access_substitution, call_substitution, woven_all, return_substitution, code_before_value, code_before_expression, woven_statement, woven_row}
-use Rattle.weaver_laws.proofs.HookSights.{sight_in_fold, sight_in_woven, SubstitutesStep, TermInside}
-use Rattle.weaver_laws.proofs.GhostImages.{image, number_same, own_frame}
+use Rattle.weaver_laws.proofs.HookSights.{sight_in_fold, sight_in_woven, SubstitutesStep}
+use Rattle.weaver_laws.proofs.InsideMemories.{TermInside}
+use Rattle.weaver_laws.proofs.GhostFrames.{image, number_same, own_frame}
 use Rattle.weaver_laws.proofs.TraceSimulation.{all_safe, VerdictsMatch, step_parts, IsProper, TraceSimulated, code_simulated}
 use Rattle.weaver_laws.proofs.ChangedCode.{PointReady, code_for_fits}
 use Rattle.weaver_laws.proofs.ActivationSteps.{InBody, PartlyAsserted, Asserted, step, fold_verdicts, fold_ghosts, verdicts_are, ghosts_are, exact_open, asserted_open, stepped, announce, matches, CallsSimulated}
 use Rattle.weaver_laws.proofs.Operands.{step_inside, operand_value, operand_values, operand_strict, operand_run, operands_strict, operands_run, operand_term}
 use Rattle.weaver_laws.proofs.SilentExpressions.{silent_eval}
 use Rattle.weaver_laws.proofs.StepStatements.{assert_changed, halted, turned, ExitsSimulated, PartSimulated, held_case, write_simulated, register_takes, nothing_takes, ValueGiven, read_gives, input_gives, output_gives, call_substitutes, pointer_inside}
+use Rattle.weaver_laws.proofs.ScalarAccesses.{scalars_in, scalars_in_row, has_scalar_access, has_scalars, scalars_in_all}
 
 some_is : {A : Type 0} (x y : A) → Some x ≡ Some y → x ≡ y
 some_is x y e = cc
@@ -67,37 +69,6 @@ and_left false b e = e
 and_right : (a b : Bool) → (a && b) ≡ true → b ≡ true
 and_right true b e = e
 and_right false b e = no_true e
-
--- ---- expression statements take and read scalars
-
-abbrev pub has_scalar_access : Expr → Bool
-has_scalar_access (ex.Load q u) = is_scalar u
-has_scalar_access e = true
-
--- what a register or place takes, and what is read, is an integer or a pointer
-abbrev pub has_scalars : Expr → Bool
-has_scalars (ex.Assign' q u b (more_of-Expr e end_of-Expr)) = is_scalar u && has_scalar_access e
-has_scalars e = true
-
-abbrev mutual
-  -- of each expression statement
-  pub scalars_in : Stmt → Bool
-  scalars_in (st.Eval e) = has_scalars e
-  scalars_in (st.Block' b xs) = scalars_in_row xs
-  scalars_in (st.If' e b (more_of-Stmt x end_of-Stmt) c (more_of-Stmt y end_of-Stmt)) = scalars_in x && scalars_in y
-  scalars_in (st.While' e b (more_of-Stmt x end_of-Stmt)) = scalars_in x
-  -- no annotation stands in the source
-  scalars_in (st.Ghost q) = false
-  scalars_in (st.Assert k n q) = false
-  scalars_in _ = true
-
-  pub scalars_in_row : {n : _} → Row_of-Stmt n → Bool
-  scalars_in_row end_of-Stmt = true
-  scalars_in_row (more_of-Stmt x more) = scalars_in x && scalars_in_row more
-
-abbrev pub scalars_in_all : List Stmt → Bool
-scalars_in_all [] = true
-scalars_in_all (x ∷ xs) = scalars_in x && scalars_in_all xs
 
 module _ (p : Core) (h : Hooks) (j : ℕ) (IsTheirs : ℕ → Type 0) (ss : List Step) (ready : AllByRecursion (PointReady p h j IsTheirs ss) h.points) (here : Here) (outer : List Frame)
     (source_call woven_call : ℕ → List Value → RestingCall) (bound : ℕ) (first : Memory) (alike : CallsSimulated p h j IsTheirs ss source_call woven_call) where

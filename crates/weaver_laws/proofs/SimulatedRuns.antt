@@ -30,13 +30,14 @@ use Rattle.step_meaning.specs.Calls as ca
 use Rattle.step_meaning.specs.ExpressionTypes.{is_void}
 use Rattle.step_meaning.specs.Fold.{start_cells}
 use Rattle.weaver_laws.specs.Weaving.{substitute_code, code_for, woven_all, enter_substitution, woven_core, woven_function, woven_functions, woven_body, code_at_end}
-use Rattle.weaver_laws.proofs.HookSights.{MemoryInside, BlockInside}
+use Rattle.weaver_laws.proofs.InsideMemories.{MemoryInside, BlockInside}
 use Rattle.weaver_laws.proofs.TraceSimulation.{IsProper, TraceSimulated}
 use Rattle.weaver_laws.proofs.ChangedCode.{PointReady}
 use Rattle.weaver_laws.proofs.ActivationSteps.{numbers, CallsSimulated, CallerSimulated, below}
-use Rattle.weaver_laws.proofs.NormalStatements.{scalars_in_all}
+use Rattle.weaver_laws.proofs.ScalarAccesses.{scalars_in_all}
 use Rattle.weaver_laws.proofs.EnterSteps.{opened}
-use Rattle.weaver_laws.proofs.Activations.{source_begins, source_goes_on, woven_begins, woven_goes_on, new_frame, source_leaves, woven_leaves, entered_simulated}
+use Rattle.weaver_laws.proofs.Activations.{new_frame, source_leaves, woven_leaves, entered_simulated}
+use Rattle.weaver_laws.proofs.BodyBeginnings.{source_begins, source_goes_on, woven_begins, woven_goes_on}
 
 no_true : {A : Type 0} → false ≡ true → A
 no_true e = cc

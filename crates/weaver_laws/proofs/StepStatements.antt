@@ -45,8 +45,9 @@ use Rattle.step_meaning.specs.Names.{integer}
 use Rattle.step_meaning.specs.Numbers.{low_bits}
 use Rattle.step_meaning.specs.TypeRules.{is_scalar}
 use Rattle.weaver_laws.specs.Weaving.{Substitution, empty_substitution, substitute_predicate, substitute_code, code_for, code_before, changed_code, access_substitution, call_substitution}
-use Rattle.weaver_laws.proofs.HookSights.{MemoryInside, sight_in_fold, SubstitutesStep, holds_same, TermInside}
-use Rattle.weaver_laws.proofs.GhostImages.{image, image_block}
+use Rattle.weaver_laws.proofs.HookSights.{sight_in_fold, SubstitutesStep, holds_same}
+use Rattle.weaver_laws.proofs.InsideMemories.{MemoryInside, TermInside}
+use Rattle.weaver_laws.proofs.GhostFrames.{image, image_block}
 use Rattle.weaver_laws.proofs.TraceSimulation.{all_safe, all_safe_append, accept_append, VerdictsMatch, step_parts, IsProper, TraceSimulated}
 use Rattle.weaver_laws.proofs.ChangedCode.{place_of, PointReady, changed_substitutes, AreChangedAssertions, changed_assertions, assertions_ghosts, assertions_accept, assertions_same}
 use Rattle.weaver_laws.proofs.ActivationSteps.{no_parts, invariant_truth, PartlyAsserted, Asserted, InBody, step, fold_verdicts, fold_ghosts, verdicts_are, ghosts_are, asserted_so, exact_open, stepped, asserted_after, announce}
