@@ -45,7 +45,8 @@ use Rattle.step_meaning.specs.Names.{integer}
 use Rattle.step_meaning.specs.Numbers.{low_bits}
 use Rattle.step_meaning.specs.TypeRules.{is_scalar}
 use Rattle.weaver_laws.specs.Weaving.{Substitution, empty_substitution, substitute_predicate, substitute_code, code_for, code_before, changed_code, access_substitution, call_substitution}
-use Rattle.weaver_laws.proofs.HookSights.{sight_in_fold, SubstitutesStep, holds_same}
+use Rattle.weaver_laws.proofs.HookSights.{sight_in_fold, SubstitutesStep}
+use Rattle.weaver_laws.proofs.HookTruths.{holds_same}
 use Rattle.weaver_laws.proofs.InsideMemories.{MemoryInside, TermInside}
 use Rattle.weaver_laws.proofs.GhostFrames.{image, image_block}
 use Rattle.weaver_laws.proofs.TraceSimulation.{all_safe, all_safe_append, accept_append, VerdictsMatch, step_parts, IsProper, TraceSimulated}
