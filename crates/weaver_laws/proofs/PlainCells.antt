@@ -1,4 +1,4 @@
--- Cells that locations denote, without their types: all that `\\separated` looks at.
+-- Cells that locations denote, without their types: all that `\separated` looks at.
 use Rattle.std.proofs.Common.{◌≡◌, ℕ, zero, suc, not, ◌&&◌, ◌||◌, List, [], ◌∷◌, ◌++◌, map, length, Option, Some, None, refl, sym, ap, ap₂, ◌∙◌, arith}
 use Rattle.std.specs.Prelude.{ℤ, pos, ◌*ℤ◌, ◌+ℤ◌, option_map}
 use Rattle.step_meaning.specs.declared.value.CType.{CType}

@@ -1,7 +1,6 @@
 -- Statements of one step or none, in the source and in the woven program.
 use Rattle.std.specs.List.{AllByRecursion}
 use Rattle.std.proofs.Common.{◌≡◌, ℕ, Bool, true, false, cond, ◌&&◌, ◌==◌, List, [], ◌∷◌, ◌++◌, length, Option, Some, None, refl, sym, subst, ap, ap₂, ◌∙◌, append-nil}
-use Rattle.std.specs.Prelude.{pos, negsuc, ◌%◌}
 use Rattle.step_meaning.specs.declared.value.Value.{Value}
 use Rattle.step_meaning.specs.declared.value.RunFault.{RunFault}
 use Rattle.step_meaning.specs.declared.value.Action.{Action}
@@ -11,11 +10,10 @@ use Rattle.step_meaning.specs.declared.stmt.Stmt.{Stmt}
 use Rattle.step_meaning.specs.declared.stmt.Stmt.TheVariants.{Assert, Eval}
 use Rattle.step_meaning.specs.declared.program.Core.{Core}
 use Rattle.step_meaning.specs.declared.program.Hooks.{Hooks}
-use Rattle.step_meaning.specs.declared.program.HookPlace.{HookPlace}
 use Rattle.step_meaning.specs.declared.program.HookPlace.TheVariants as place
 use Rattle.step_meaning.specs.declared.value.CType.{CType}
 use Rattle.step_meaning.specs.declared.value.Cell.{Cell}
-use Rattle.step_meaning.specs.declared.value.Cell.TheVariants.{Nothing, Holds}
+use Rattle.step_meaning.specs.declared.value.Cell.TheVariants.{Holds}
 use Rattle.step_meaning.specs.declared.value.Value.TheVariants as value
 use Rattle.step_meaning.specs.declared.value.RunFault.TheVariants as fault
 use Rattle.step_meaning.specs.declared.expr.Expr.{Expr, end_of-Expr, more_of-Expr}
@@ -24,9 +22,8 @@ use Rattle.step_meaning.specs.declared.expr.Place_.{Place_}
 use Rattle.step_meaning.specs.declared.value.CType.TheVariants as type
 use Rattle.step_meaning.specs.Memory.{Memory, Frame, reached, stored}
 use Rattle.step_meaning.specs.Steps.{Step, Verdict, Made, Fault, Trace, Stop, Then}
-use Rattle.step_meaning.specs.State.{State, Here, Registers, InRegister, At, register_at, set_register}
+use Rattle.step_meaning.specs.State.{State, Here, Registers, At}
 use Rattle.step_meaning.specs.Views.{no_memory}
-use Rattle.step_meaning.specs.StepViews.{called_by}
 use Rattle.step_meaning.specs.Predicates.{holds, denoted_types}
 use Rattle.step_meaning.specs.Ghosts.{ghost_sight}
 use Rattle.step_meaning.specs.Flow.{Resting, RestingCall, resting}
@@ -36,15 +33,12 @@ use Rattle.step_meaning.specs.Traced.{IsStepOf, PointsIntoProgram}
 use Rattle.step_meaning.specs.Fold.{ghosts_after_code, verdicts_of_code}
 use Rattle.step_meaning.specs.Terms.{term_value}
 use Rattle.step_meaning.specs.Expressions.{eval}
-use Rattle.step_meaning.specs.Accesses.{load, held_register, held, write_at, store, load_at, store_at, write_register}
+use Rattle.step_meaning.specs.Accesses.{write_at, store}
 use Rattle.step_meaning.specs.Normal.{is_operand, is_plain_place}
 use Rattle.step_meaning.specs.Strict.{strict}
 use Rattle.step_meaning.specs.Statements as sm
-use Rattle.step_meaning.specs.Accesses as acc
-use Rattle.step_meaning.specs.Names.{integer}
-use Rattle.step_meaning.specs.Numbers.{low_bits}
 use Rattle.step_meaning.specs.TypeRules.{is_scalar}
-use Rattle.weaver_laws.specs.Weaving.{Substitution, empty_substitution, substitute_predicate, substitute_code, code_for, code_before, changed_code, access_substitution, call_substitution}
+use Rattle.weaver_laws.specs.Weaving.{empty_substitution, substitute_predicate, substitute_code, code_for, code_before, changed_code, access_substitution}
 use Rattle.weaver_laws.proofs.HookSights.{sight_in_fold, SubstitutesStep}
 use Rattle.weaver_laws.proofs.HookTruths.{holds_same}
 use Rattle.weaver_laws.proofs.InsideMemories.{MemoryInside, TermInside}
@@ -211,7 +205,7 @@ module _ (p : Core) (h : Hooks) (j : ℕ) (IsTheirs : ℕ → Type 0) (ss : List
   held_case None k s r t e f goal exits = no_true (subst (λ t. IsProper p false t) e f)
   held_case (Some v) k s r t e f goal exits = exits v refl e
 
-  scalar_one : (u : CType) → is_scalar u ≡ true → length (denoted_types p.layouts u) ≡ 1
+  pub scalar_one : (u : CType) → is_scalar u ≡ true → length (denoted_types p.layouts u) ≡ 1
   scalar_one (type.Int k) e = refl
   scalar_one (type.Pointer' b v) e = refl
   scalar_one type.Void e = no_true e
@@ -268,117 +262,3 @@ module _ (p : Core) (h : Hooks) (j : ℕ) (IsTheirs : ℕ → Type 0) (ss : List
                 ∙ operand_run here woven_call d od v r ev (λ v. store resting here u (At w) v (λ x. run_woven tail rest')) (record s { ghosts = G }))
             (write_on (reached s.memory w u) D tail rest rest' simulated s (ghosts_here a s g) (all_safe j (verdicts_here a s g) && good) r w v body' (asserted_after p h j IsTheirs ss ready here outer a refl s r (access_substitution q u) m_in substitutes first g good body) proper'.1))))
   }
-
-  -- ---- a value, and what takes it after the step that gives it
-
-  pub record ValueTaken (k k' : Value → State → Registers → Trace) : Type 0 where
-    pub by : (v : Value) (s : State) (g : Memory) (good : Bool) (vs : List Verdict) (r : Registers) → InBodyHere s g → PartlyAssertedHere s g good vs → IsProper p false (k v s r) → SimulatedHere g good vs (k v s r) (k' v (woven_state s g) r)
-
-  pub register_takes : (u : CType) (i : ℕ) (D : Resting Completion) (tail : List Stmt) (rest rest' : Completion → State → Registers → Trace) → PartSimulated rest rest' D (run_woven tail)
-      → ValueTaken (λ v. store strict here u (InRegister i) v (λ x. D rest)) (λ v. store resting here u (InRegister i) v (λ x. run_woven tail rest'))
-  register_takes u i D tail rest rest' simulated = record { by = λ v s g good vs r b o f. on v s g good vs r (register_at r i u) b o f }
-    where
-      on : (v : Value) (s : State) (g : Memory) (good : Bool) (vs : List Verdict) (r : Registers) (c : Option Cell) → InBodyHere s g → PartlyAssertedHere s g good vs
-          → IsProper p false (write_register strict here i v c (λ x. D rest) s r) → SimulatedHere g good vs (write_register strict here i v c (λ x. D rest) s r) (write_register resting here i v c (λ x. run_woven tail rest') (woven_state s g) r)
-      on v s g good vs r None b o f = no_true f
-      on v s g good vs r (Some c) b o f = simulated.by s g good vs (set_register r i v) b o f
-
-  pub nothing_takes : (D : Resting Completion) (tail : List Stmt) (rest rest' : Completion → State → Registers → Trace) → PartSimulated rest rest' D (run_woven tail) → ValueTaken (λ v. D rest) (λ v. run_woven tail rest')
-  nothing_takes D tail rest rest' simulated = record { by = λ v s g good vs r b o f. simulated.by s g good vs r b o f }
-
-  -- what is shown of the step that gives a value: its code stands before the statements T, which evaluate the expression
-  abbrev pub ValueGiven : Expr → HookPlace → Substitution → Type 0
-  ValueGiven e pl st =
-      (k k' : Value → State → Registers → Trace) → ValueTaken k k' → (T : List Stmt) (rest' : Completion → State → Registers → Trace) → ((s : State) (r : Registers) → run_woven T rest' s r ≡ eval resting woven_call here e k' s r)
-      → (s : State) (g : Memory) (good : Bool) (vs : List Verdict) (r : Registers) → InBodyHere s g → PartlyAssertedHere s g good vs → IsProper p false (eval strict source_call here e k s r)
-      → SimulatedHere g good vs (eval strict source_call here e k s r) (run_woven (code_before h.points here.function pl st ++ T) rest' (woven_state s g) r)
-
-  -- ---- a read
-
-  read_substitutes : (s : State) (r : Registers) (q : Place_) (u : CType) (w : Value) → is_plain_place q ≡ true → is_scalar u ≡ true → place_value here q r ≡ Some w → IsStepOf p (step_here (act.Read w) s) → (base : Memory)
-      → SubstitutesStep p.layouts here s.memory r base (step_parts ss (step_here (act.Read w) s)) place.Read here.function (access_substitution q u)
-  read_substitutes s r q u w o sc e stepped_so base =
-      record {
-        accessed = λ t g. place_term here p s.memory r base g (step_parts ss (step_here (act.Read w) s)) q u o w e;
-        accessed_inside = λ t. pointer_inside w stepped_so.pointers;
-        object = λ t. scalar_one u sc;
-        parameter = λ t. no_true t;
-        parameter_inside = λ t. no_true t;
-        result = λ t. no_true t;
-        result_inside = λ t. no_true t;
-        called = λ t. no_true t;
-      }
-
-  read_on : (c : Option Cell) (k k' : Value → State → Registers → Trace) → ValueTaken k k' → (s : State) (g : Memory) (good : Bool) (r : Registers) → InBodyHere s g → AssertedHere s g good []
-      → IsProper p false (held strict here c k s r) → SimulatedHere g good [] (held strict here c k s r) (held resting here c k' (woven_state s g) r)
-  read_on None k k' takes s g good r b a f = halted s g good [] b a fault.Invalid f
-  read_on (Some Nothing) k k' takes s g good r b a f = halted s g good [] b a fault.Uninit f
-  read_on (Some (Holds v)) k k' takes s g good r b a f = takes.by v s g good [] r b (exact_open p h j IsTheirs ss ready here outer s g good) f
-
-  pub read_gives : (q : Place_) (u : CType) → is_plain_place q ≡ true → is_scalar u ≡ true → ValueGiven (ex.Load q u) place.Read (access_substitution q u)
-  read_gives q u oq sc k k' takes T rest' runs s g good vs r body opened proper =
-      let t = eval strict source_call here (ex.Load q u) k s r in
-      let T' = code_before h.points here.function place.Read (access_substitution q u) ++ T in
-      held_case (place_value here q r) (λ w. load strict here u (At w) k) s r t (place_strict here source_call q oq (λ l. load strict here u l k) s r) proper (SimulatedHere g good vs t (run_woven T' rest' (woven_state s g) r)) (λ w ew et.
-        let a = act.Read w in
-        let t' = held strict here (reached s.memory w u) k s r in
-        let proper' : IsProper p false (Then (Made (step_here a s)) t') = subst (λ t. IsProper p false t) et proper in
-        let substitutes = read_substitutes s r q u w oq sc ew proper'.0 in
-        let m_in = step_inside p (step_here a s) proper'.0 in
-        let body' = stepped p h j IsTheirs ss ready here outer a refl s r (access_substitution q u) m_in substitutes first g body in
-        subst (λ t. SimulatedHere g good vs t (run_woven T' rest' (woven_state s g) r)) (sym et)
-          (announce p h j IsTheirs ss ready here outer a refl s r (access_substitution q u) m_in substitutes woven_call bound first g good vs body opened t' T rest'
-            (λ G. held resting here (reached s.memory w u) k' (record s { ghosts = G }) r)
-            (λ G. runs (record s { ghosts = G }) r ∙ place_run here woven_call q oq w r ew (λ l. load resting here u l k') (record s { ghosts = G }))
-            (read_on (reached s.memory w u) k k' takes s (ghosts_here a s g) (all_safe j (verdicts_here a s g) && good) r body' (asserted_after p h j IsTheirs ss ready here outer a refl s r (access_substitution q u) m_in substitutes first g good body) proper'.1)))
-
-  -- ---- calls, input and output
-
-  pub call_substitutes : (a : Action) (n : ℕ) → place_of a ≡ place.Call → called_by a ≡ Some n → (s : State) (r : Registers) (base : Memory) → SubstitutesStep p.layouts here s.memory r base (step_parts ss (step_here a s)) place.Call here.function (call_substitution n)
-  call_substitutes a n e c s r base =
-      record {
-        accessed = λ t. no_true t;
-        accessed_inside = λ t. no_true t;
-        object = λ t. no_true t;
-        parameter = λ t. no_true t;
-        parameter_inside = λ t. no_true t;
-        result = λ t. no_true t;
-        result_inside = λ t. no_true t;
-        called = λ t. c;
-      }
-
-  on_byte : (bs : List ℕ) (k k' : Value → State → Registers → Trace) → ValueTaken k k' → (s : State) (g : Memory) (good : Bool) (r : Registers) → InBodyHere s g → IsProper p false (acc.next_byte strict here bs k s r)
-      → SimulatedHere g good [] (acc.next_byte strict here bs k s r) (acc.next_byte resting here bs k' (woven_state s g) r)
-  on_byte [] k k' takes s g good r b f = takes.by (value.Int (negsuc 0)) s g good [] r b (exact_open p h j IsTheirs ss ready here outer s g good) f
-  on_byte (n ∷ bs) k k' takes s g good r b f =
-      let s' : State = record s { input = bs } in
-      takes.by (value.Int (pos (n % 256))) s' g good [] r (record { inside = b.inside; own = b.own; below = b.below; bounded = b.bounded; later = b.later }) (exact_open p h j IsTheirs ss ready here outer s' g good) f
-
-  pub input_gives : ValueGiven ex.GetChar place.Call (call_substitution 0)
-  input_gives k k' takes T rest' runs s g good vs r body opened proper =
-      let a = act.Input in
-      let substitutes = call_substitutes a 0 refl refl s r in
-      let m_in = step_inside p (step_here a s) proper.0 in
-      announce p h j IsTheirs ss ready here outer a refl s r (call_substitution 0) m_in substitutes woven_call bound first g good vs body opened (acc.next_byte strict here s.input k s r) T rest'
-        (λ G. acc.next_byte resting here s.input k' (record s { ghosts = G }) r) (λ G. runs (record s { ghosts = G }) r)
-        (on_byte s.input k k' takes s (ghosts_here a s g) (all_safe j (verdicts_here a s g) && good) r (stepped p h j IsTheirs ss ready here outer a refl s r (call_substitution 0) m_in substitutes first g body) proper.1)
-
-  pub output_gives : (b : _) (d : Expr) → is_operand d ≡ true → ValueGiven (ex.PutChar' b (more_of-Expr d end_of-Expr)) place.Call (call_substitution 1)
-  output_gives b d od k k' takes T rest' runs s g good vs r body opened proper =
-      let e = ex.PutChar' b (more_of-Expr d end_of-Expr) in
-      let t = eval strict source_call here e k s r in
-      let T' = code_before h.points here.function place.Call (call_substitution 1) ++ T in
-      held_case (operand_value d r) (λ v. acc.put_char strict here v k) s r t (operand_strict here source_call d od (λ v. acc.put_char strict here v k) s r) proper (SimulatedHere g good vs t (run_woven T' rest' (woven_state s g) r)) (λ v ev et.
-        let n = low_bits 8 (integer v) in
-        let a = act.Output n in
-        let t' = k (value.Int (pos n)) s r in
-        let proper' : IsProper p false (Then (Made (step_here a s)) t') = subst (λ t. IsProper p false t) et proper in
-        let substitutes = call_substitutes a 1 refl refl s r in
-        let m_in = step_inside p (step_here a s) proper'.0 in
-        let g' = ghosts_here a s g in
-        let good' = all_safe j (verdicts_here a s g) && good in
-        subst (λ t. SimulatedHere g good vs t (run_woven T' rest' (woven_state s g) r)) (sym et)
-          (announce p h j IsTheirs ss ready here outer a refl s r (call_substitution 1) m_in substitutes woven_call bound first g good vs body opened t' T rest'
-            (λ G. k' (value.Int (pos n)) (record s { ghosts = G }) r)
-            (λ G. runs (record s { ghosts = G }) r ∙ operand_run here woven_call d od v r ev (λ v. acc.put_char resting here v k') (record s { ghosts = G }))
-            (takes.by (value.Int (pos n)) s g' good' [] r (stepped p h j IsTheirs ss ready here outer a refl s r (call_substitution 1) m_in substitutes first g body) (exact_open p h j IsTheirs ss ready here outer s g' good') proper'.1)))
