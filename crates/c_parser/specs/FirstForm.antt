@@ -28,10 +28,13 @@ abbrev pub begins_reserved : List ℕ → Bool
 begins_reserved (a ∷ b ∷ cs) = a == 95 && b == 95
 begins_reserved _ = false
 
+-- a function of the library that each program has
+abbrev pub is_library_name : List ℕ → Bool
+is_library_name bytes = bytes_eq bytes (codes "getchar") || (bytes_eq bytes (codes "putchar") || (bytes_eq bytes (codes "malloc") || bytes_eq bytes (codes "free")))
+
 -- a name that a variable or a function may have, but for `main`
 abbrev pub is_free_name : List ℕ → Bool
-is_free_name bytes =
-    is_name bytes && not (begins_reserved bytes || (bytes_eq bytes (codes "main") || (bytes_eq bytes (codes "getchar") || bytes_eq bytes (codes "putchar"))))
+is_free_name bytes = is_name bytes && not (begins_reserved bytes || (bytes_eq bytes (codes "main") || is_library_name bytes))
 
 -- a statement of the mode's form, where there are so many variables and this many functions stand before its own
 abbrev pub StatementFits : Mode → ℕ → ℕ → FirstStmt → Type 0

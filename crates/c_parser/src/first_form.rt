@@ -28,7 +28,12 @@ fn is_free(name: &str) -> bool
     requires { is_name name.now ≡ true }
     ensures { result ≡ is_free_name name.now }
 {
-    !(name.starts_with("__") || name == "main" || name == "getchar" || name == "putchar")
+    !(name.starts_with("__")
+        || name == "main"
+        || name == "getchar"
+        || name == "putchar"
+        || name == "malloc"
+        || name == "free")
 }
 
 /// Takes a name that may be declared after these.

@@ -48,7 +48,7 @@ none_of_points view cells false false is h = h
 none_from : (ss more : List Step) (ghosts : Memory) → HasNoAccept 1 (verdicts (fold_from two_writes keep_x ss ghosts more))
 none_from ss [] ghosts = tt
 none_from ss (s ∷ more) ghosts =
-    none_of_points (sight_of two_writes ss s) (cells_at two_writes keep_x s ghosts) (2 == s.function && fits_action place.Write s.action) (3 == s.function && fits_action place.Write s.action)
+    none_of_points (sight_of two_writes ss s) (cells_at two_writes keep_x s ghosts) (4 == s.function && fits_action place.Write s.action) (5 == s.function && fits_action place.Write s.action)
     (Made s ∷ fold_from two_writes keep_x ss (ghosts_after_code (sight_of two_writes ss s) (code_at keep_x.points s) (cells_at two_writes keep_x s ghosts)) more)
     (none_from ss more (ghosts_after_code (sight_of two_writes ss s) (code_at keep_x.points s) (cells_at two_writes keep_x s ghosts)))
 
@@ -58,10 +58,10 @@ keep_x_accepts_nothing = record { none = λ ss. none_from ss ss (start_cells two
 -- ---- one Accept verdict: at the Return of `main`, `\result == 0`
 
 abbrev accepting : List Stmt
-accepting = s.Assert Accept 1 (is.Relation comparing.Equal (t.Result 2) (t.Int (pos 0))) ∷ []
+accepting = s.Assert Accept 1 (is.Relation comparing.Equal (t.Result 4) (t.Int (pos 0))) ∷ []
 
 abbrev returns_zero : Hooks
-returns_zero = hooks [] (point 2 place.Return [] accepting ∷ [])
+returns_zero = hooks [] (point 4 place.Return [] accepting ∷ [])
 
 -- a Return gives back 0
 abbrev gives_zero : Action → Bool
@@ -72,10 +72,10 @@ gives_zero _ = true
 abbrev ReturnsZero : List Step → Type 0
 ReturnsZero ss = AllByRecursion (λ s. gives_zero s.action ≡ true) ss
 
-result_zero : (a : Action) (g : ℕ) → IsTrue (is_return a) → NamesOwn a g → g ≡ 2 → related comparing.Equal (result_at (event_of a) 2 (result_of a)) (Some (Number (pos 0))) ≡ gives_zero a
-result_zero (act.Return k v) g r own e = subst (λ k. related comparing.Equal (result_at (event_of (act.Return k v)) 2 v) (Some (Number (pos 0))) ≡ gives_zero (act.Return k v)) (sym (own ∙ e)) (of v)
+result_zero : (a : Action) (g : ℕ) → IsTrue (is_return a) → NamesOwn a g → g ≡ 4 → related comparing.Equal (result_at (event_of a) 4 (result_of a)) (Some (Number (pos 0))) ≡ gives_zero a
+result_zero (act.Return k v) g r own e = subst (λ k. related comparing.Equal (result_at (event_of (act.Return k v)) 4 v) (Some (Number (pos 0))) ≡ gives_zero (act.Return k v)) (sym (own ∙ e)) (of v)
   where
-    of : (v : Option Value) → related comparing.Equal (result_at (event_of (act.Return 2 v)) 2 v) (Some (Number (pos 0))) ≡ gives_zero (act.Return 2 v)
+    of : (v : Option Value) → related comparing.Equal (result_at (event_of (act.Return 4 v)) 4 v) (Some (Number (pos 0))) ≡ gives_zero (act.Return 4 v)
     of None = refl
     of (Some (value.Int z)) = refl
     of (Some value.Null) = refl
@@ -86,6 +86,8 @@ result_zero (act.Read p) g r own e = false_is_not_true r
 result_zero (act.Write p v) g r own e = false_is_not_true r
 result_zero act.Input g r own e = false_is_not_true r
 result_zero (act.Output b) g r own e = false_is_not_true r
+result_zero (act.Malloc n p k) g r own e = false_is_not_true r
+result_zero (act.Free p) g r own e = false_is_not_true r
 result_zero act.Turn g r own e = false_is_not_true r
 result_zero (act.Halt f) g r own e = false_is_not_true r
 
@@ -98,6 +100,8 @@ other_action (act.Read p) e = (refl, refl)
 other_action (act.Write p v) e = (refl, refl)
 other_action act.Input e = (refl, refl)
 other_action (act.Output b) e = (refl, refl)
+other_action (act.Malloc n p k) e = (refl, refl)
+other_action (act.Free p) e = (refl, refl)
 other_action act.Turn e = (refl, refl)
 other_action (act.Halt f) e = (refl, refl)
 
@@ -109,12 +113,14 @@ return_fits (act.Read p) e = e
 return_fits (act.Write p v) e = e
 return_fits act.Input e = e
 return_fits (act.Output b) e = e
+return_fits (act.Malloc n p k) e = e
+return_fits (act.Free p) e = e
 return_fits act.Turn e = e
 return_fits (act.Halt f) e = e
 
 -- the code at a step of `main`
-code_found : (g : ℕ) (b : Bool) (c : Bool) → g ≡ 2 → b ≡ c → cond (2 == g && b) accepting [] ++ [] ≡ cond c accepting []
-code_found g b c e f = subst (λ g. cond (2 == g && b) accepting [] ++ [] ≡ cond c accepting []) (sym e) (subst (λ b. cond b accepting [] ++ [] ≡ cond c accepting []) (sym f) (of c))
+code_found : (g : ℕ) (b : Bool) (c : Bool) → g ≡ 4 → b ≡ c → cond (4 == g && b) accepting [] ++ [] ≡ cond c accepting []
+code_found g b c e f = subst (λ g. cond (4 == g && b) accepting [] ++ [] ≡ cond c accepting []) (sym e) (subst (λ b. cond b accepting [] ++ [] ≡ cond c accepting []) (sym f) (of c))
   where
     of : (c : Bool) → cond c accepting [] ++ [] ≡ cond c accepting []
     of true = refl
@@ -124,7 +130,7 @@ code_found g b c e f = subst (λ g. cond (2 == g && b) accepting [] ++ [] ≡ co
 
 -- a step of `main` that is no Return
 abbrev IsOther : Step → Type 0
-IsOther s = (s.function ≡ 2) × (is_return s.action ≡ false)
+IsOther s = (s.function ≡ 4) × (is_return s.action ≡ false)
 
 zeros_last : (before : List Step) (s : Step) → AllByRecursion IsOther before → (gives_zero s.action ≡ true) ↔ ReturnsZero (before ++ (s ∷ []))
 zeros_last [] s h = ((λ e. (e, tt)), λ r. r.0)
@@ -133,7 +139,7 @@ zeros_last (x ∷ xs) s h = let rest = zeros_last xs s h.1 in ((λ e. ((other_ac
 abbrev OneAccept : Type 0 → List Item → Type 0
 OneAccept fact is = HasOneAccept 1 fact (verdicts is)
 
-accept_last : (whole before : List Step) (s : Step) (ghosts : Memory) (fact : Type 0) → AllByRecursion IsOther before → s.function ≡ 2 → IsTrue (is_return s.action) → NamesOwn s.action s.function → (gives_zero s.action ≡ true) ↔ fact
+accept_last : (whole before : List Step) (s : Step) (ghosts : Memory) (fact : Type 0) → AllByRecursion IsOther before → s.function ≡ 4 → IsTrue (is_return s.action) → NamesOwn s.action s.function → (gives_zero s.action ≡ true) ↔ fact
     → OneAccept fact (fold_from empty_main returns_zero whole ghosts (before ++ (s ∷ [])))
 accept_last whole [] s ghosts fact h own r names f =
     subst (λ c. OneAccept fact (map Judged (verdicts_of_code view c cells) ++ (Made s ∷ [])))
@@ -146,7 +152,7 @@ accept_last whole [] s ghosts fact h own r names f =
     cells : Memory
     cells = cells_at empty_main returns_zero s ghosts
 
-    truth : related comparing.Equal (result_at (event_of s.action) 2 (result_of s.action)) (Some (Number (pos 0))) ≡ gives_zero s.action
+    truth : related comparing.Equal (result_at (event_of s.action) 4 (result_of s.action)) (Some (Number (pos 0))) ≡ gives_zero s.action
     truth = result_zero s.action s.function r names own
 accept_last whole (x ∷ xs) s ghosts fact h own r names f =
     subst (λ c. OneAccept fact (map Judged (verdicts_of_code (sight_of empty_main whole x) c (cells_at empty_main returns_zero x ghosts)) ++ (Made x ∷ fold_from empty_main returns_zero whole (ghosts_after_code (sight_of empty_main whole x) c (cells_at empty_main returns_zero x ghosts)) (xs ++ (s ∷ [])))))
@@ -155,11 +161,13 @@ accept_last whole (x ∷ xs) s ghosts fact h own r names f =
 
 -- ---- traced lists
 
-is_main : (g : ℕ) → IsTrue (with_body (slice_get empty_main.functions g)) → g ≡ 2
+is_main : (g : ℕ) → IsTrue (with_body (slice_get empty_main.functions g)) → g ≡ 4
 is_main zero h = false_is_not_true h
 is_main (suc zero) h = false_is_not_true h
-is_main (suc (suc zero)) h = refl
-is_main (suc (suc (suc g))) h = false_is_not_true h
+is_main (suc (suc zero)) h = false_is_not_true h
+is_main (suc (suc (suc zero))) h = false_is_not_true h
+is_main (suc (suc (suc (suc zero)))) h = refl
+is_main (suc (suc (suc (suc (suc g))))) h = false_is_not_true h
 
 in_front : (xs ys : List Step) (i : ℕ) (x : Step) → At xs i x → (i < length xs) × At (xs ++ ys) i x
 in_front [] ys i x e = absurd (no e)

@@ -17,7 +17,7 @@ use Rattle.step_meaning.specs.declared.expr.Side.TheVariants.{PointerFirst, Poin
 use Rattle.step_meaning.specs.declared.expr.UpdateOp.{UpdateOp}
 use Rattle.step_meaning.specs.declared.expr.UpdateOp.TheVariants.{Integer, Forward, Backward}
 use Rattle.step_meaning.specs.declared.expr.Expr.{Expr, Row_of-Expr, end_of-Expr, more_of-Expr}
-use Rattle.step_meaning.specs.declared.expr.Expr.TheVariants.{Literal, Null, Load, Address, Convert', Unary', Binary', Compare', Move', Difference', Not', Both', Either', Choose', Assign', Update', Invoke', GetChar, PutChar', Discard', Own, Deref', Member', Index'}
+use Rattle.step_meaning.specs.declared.expr.Expr.TheVariants.{Literal, Null, Load, Address, Convert', Unary', Binary', Compare', Move', Difference', Not', Both', Either', Choose', Assign', Update', Invoke', GetChar, PutChar', Malloc', Free', Discard', Own, Deref', Member', Index'}
 use Rattle.step_meaning.specs.declared.expr.Place_.{Place_, end_of-Place_, more_of-Place_}
 use Rattle.step_meaning.specs.declared.predicate.Predicate.{Predicate}
 use Rattle.step_meaning.specs.declared.stmt.VerdictKind.{VerdictKind}
@@ -27,13 +27,16 @@ use Rattle.step_meaning.specs.declared.stmt.Stmt.TheVariants as st
 use Rattle.step_meaning.specs.declared.program.Core.{Core}
 use Rattle.step_meaning.specs.declared.program.Function.{Function}
 use Rattle.step_meaning.specs.declared.program.Layout.{Layout}
-use Rattle.step_meaning.specs.Names.{truth, of_truth, moved}
-use Rattle.step_meaning.specs.Memory.{Memory, room_at, reached, stored}
+use Rattle.step_meaning.specs.Numbers.{low_bits}
+use Rattle.step_meaning.specs.Names.{truth, of_truth, integer, moved}
+use Rattle.step_meaning.specs.Memory.{Memory, Block, room_at, reached, stored, freed}
 use Rattle.step_meaning.specs.Steps.{Step, Verdict, Made, Judged, End, Exit, Fault, More, Trace, Stop, Then}
 use Rattle.step_meaning.specs.State.{State, Registers, Here, unset_registers, Lvalue, InRegister, At, register_at, set_register, designated}
 use Rattle.step_meaning.specs.Flow.{resting, Resting, RestingCall}
 use Rattle.step_meaning.specs.Accesses as acc
 use Rattle.step_meaning.specs.Accesses.{converted_to}
+use Rattle.step_meaning.specs.Allocation as al
+use Rattle.step_meaning.specs.Allocation.{block_for}
 use Rattle.step_meaning.specs.Expressions as ex
 use Rattle.step_meaning.specs.Statements as sm
 use Rattle.step_meaning.specs.Statements.{Completion, Next, Broken, Continued, Returned}
@@ -121,6 +124,9 @@ module _ (R : ℕ → Trace → Trace → Type 0) (counts : Counts R) where
 
     same_put_made : (x : ℕ) → Same n (resting.put_made x) (resting.put_made x)
     same_put_made x = record { by = λ m le r r' h s q. h m (omega arith) tt (record s { made = x }) q }
+
+    same_put_allocated : (x : ℕ) → Same n (resting.put_allocated x) (resting.put_allocated x)
+    same_put_allocated x = record { by = λ m le r r' h s q. h m (omega arith) tt (record s { allocated = x }) q }
 
     same_registers : Same n resting.registers resting.registers
     same_registers = record { by = λ m le r r' h s q. h m (omega arith) q s q }
@@ -219,6 +225,20 @@ module _ (R : ℕ → Trace → Trace → Type 0) (counts : Counts R) where
     same_put_char : (v : Value) → Same n (acc.put_char resting here v) (acc.put_char resting here v)
     same_put_char v = same_then n (same_emit n here _) (same_pure n _)
 
+    same_allocate_block : (count : ℕ) (b : Option Block) → Same n (al.allocate_block resting here count b) (al.allocate_block resting here count b)
+    same_allocate_block count None = same_then n (same_emit n here _) (same_pure n value.Null)
+    same_allocate_block count (Some b) = same_bind n (same_get n) (λ s. same_then n (same_emit n here _) (same_then n (same_put_memory n _) (same_then n (same_put_allocated n _) (same_pure n _))))
+
+    same_allocate : (ls : List Layout) (t : CType) (v : Value) → Same n (al.allocate resting here ls t v) (al.allocate resting here ls t v)
+    same_allocate ls t v = same_allocate_block (low_bits 64 (integer v)) (block_for ls t (low_bits 64 (integer v)))
+
+    same_release_to : (m : Option Memory) → Same n (al.release_to resting here m) (al.release_to resting here m)
+    same_release_to None = same_halt n here fault.BadFree
+    same_release_to (Some m) = same_then n (same_put_memory n m) (same_pure n _)
+
+    same_release : (p : Value) → Same n (al.release resting here p) (al.release resting here p)
+    same_release p = same_then n (same_emit n here (act.Free p)) (same_bind n (same_get n) (λ s. same_release_to (freed s.memory p)))
+
     same_ghost_code : (ls : List Layout) (g : GhostStmt) → Same n (sm.ghost_code resting ls here g) (sm.ghost_code resting ls here g)
     same_ghost_code ls g = same_bind n (same_get n) (λ s. same_bind n (same_registers n) (λ r. same_put_ghosts n _))
 
@@ -227,9 +247,9 @@ module _ (R : ℕ → Trace → Trace → Type 0) (counts : Counts R) where
 
   -- ---- expressions
 
-  module _ (n : ℕ) (here : Here) (call call' : ℕ → List Value → RestingCall) (h : (g : ℕ) (vs : List Value) → SameCall n (call g vs) (call' g vs)) where
+  module _ (n : ℕ) (ls : List Layout) (here : Here) (call call' : ℕ → List Value → RestingCall) (h : (g : ℕ) (vs : List Value) → SameCall n (call g vs) (call' g vs)) where
     mutual
-      same_eval : (e : Expr) → Same n (ex.eval resting call here e) (ex.eval resting call' here e)
+      same_eval : (e : Expr) → Same n (ex.eval resting ls call here e) (ex.eval resting ls call' here e)
       same_eval (Literal k z) = same_pure n _
       same_eval Null = same_pure n _
       same_eval (Load p t) = same_bind n (same_place p) (same_load n here t)
@@ -249,15 +269,17 @@ module _ (R : ℕ → Trace → Trace → Type 0) (counts : Counts R) where
       same_eval (Invoke' f b es) = same_bind n (same_all es) (λ vs. same_then n (same_emit n here _) (same_through n (h f vs)))
       same_eval GetChar = same_get_char n here
       same_eval (PutChar' b (more_of-Expr e end_of-Expr)) = same_bind n (same_eval e) (same_put_char n here)
+      same_eval (Malloc' b (more_of-Expr e end_of-Expr) t) = same_bind n (same_eval e) (same_allocate n here ls t)
+      same_eval (Free' b (more_of-Expr e end_of-Expr)) = same_bind n (same_eval e) (same_release n here)
       same_eval (Discard' b (more_of-Expr e end_of-Expr)) = same_then n (same_eval e) (same_pure n _)
 
-      same_place : (p : Place_) → Same n (ex.place resting call here p) (ex.place resting call' here p)
+      same_place : (p : Place_) → Same n (ex.place resting ls call here p) (ex.place resting ls call' here p)
       same_place (Own v) = same_pure n _
       same_place (Deref' b (more_of-Expr e end_of-Expr)) = same_bind n (same_eval e) (λ a. same_pure n _)
       same_place (Member' b (more_of-Place_ p end_of-Place_) o) = same_bind n (same_place p) (λ l. same_object_after n here l _)
       same_place (Index' b (more_of-Place_ p end_of-Place_) c (more_of-Expr e end_of-Expr) size) = same_bind n (same_place p) (λ l. same_bind n (same_eval e) (λ i. same_object_after n here l _))
 
-      same_all : {k : _} (e : Row_of-Expr k) → Same n (ex.all resting call here e) (ex.all resting call' here e)
+      same_all : {k : _} (e : Row_of-Expr k) → Same n (ex.all resting ls call here e) (ex.all resting ls call' here e)
       same_all end_of-Expr = same_pure n _
       same_all (more_of-Expr e more) = same_bind n (same_eval e) (λ v. same_bind n (same_all more) (λ vs. same_pure n _))
 
@@ -291,14 +313,14 @@ module _ (R : ℕ → Trace → Trace → Type 0) (counts : Counts R) where
       same_emit_then n here act.Turn (same_bind n x1 (same_after_turn n (same_turns n here x1 k k' (omega arith) (omega arith))))
 
   module _ (n : ℕ) (ls : List Layout) (here : Here) (call call' : ℕ → List Value → RestingCall) (h : (g : ℕ) (vs : List Value) → SameCall n (call g vs) (call' g vs)) (k k' : ℕ) (le : n ≤ k) (le' : n ≤ k') where
-    same_value : (e : Expr) → Same n (ex.eval resting call here e) (ex.eval resting call' here e)
-    same_value = same_eval n here call call' h
+    same_value : (e : Expr) → Same n (ex.eval resting ls call here e) (ex.eval resting ls call' here e)
+    same_value = same_eval n ls here call call' h
 
-    same_when : (o : Option Expr) {d : Resting Completion} {d' : Resting Completion} → Same n d d' → Same n (sm.when_test resting (option_map (ex.eval resting call here) o) d) (sm.when_test resting (option_map (ex.eval resting call' here) o) d')
+    same_when : (o : Option Expr) {d : Resting Completion} {d' : Resting Completion} → Same n d d' → Same n (sm.when_test resting (option_map (ex.eval resting ls call here) o) d) (sm.when_test resting (option_map (ex.eval resting ls call' here) o) d')
     same_when None a = a
     same_when (Some e) a = same_bind n (same_value e) (λ v. same_cond n (truth v) a (same_pure n Broken))
 
-    same_step_of : (o : Option Expr) → Same n (sm.loop_step resting (option_map (ex.eval resting call here) o)) (sm.loop_step resting (option_map (ex.eval resting call' here) o))
+    same_step_of : (o : Option Expr) → Same n (sm.loop_step resting (option_map (ex.eval resting ls call here) o)) (sm.loop_step resting (option_map (ex.eval resting ls call' here) o))
     same_step_of None = same_pure n Next
     same_step_of (Some e) = same_bind n (same_value e) (λ v. same_pure n Next)
 

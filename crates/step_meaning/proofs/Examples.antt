@@ -102,7 +102,7 @@ function t locals body = record { name = []; result = t; params = 0; locals = lo
 
 -- a program with these variables of file scope and these functions, the last of which, with this number, is `main`
 abbrev pub program : List Declared → List (List Value) → List Function → ℕ → Core
-program globals initial functions main = record { layouts = []; globals = globals; initial = initial; ghosts = []; functions = library ∷ library ∷ functions; start = main }
+program globals initial functions main = record { layouts = []; globals = globals; initial = initial; ghosts = []; functions = library ∷ library ∷ library ∷ library ∷ functions; start = main }
 
 abbrev pub zero_cell : List Value
 zero_cell = value.Int (pos 0) ∷ []
@@ -113,23 +113,23 @@ step_actions ss = map (λ s. s.action) ss
 -- ---- int main(void) { return 0; }
 
 abbrev pub empty_main : Core
-empty_main = program [] [] (function int [] (return (lit 0) ∷ []) ∷ []) 2
+empty_main = program [] [] (function int [] (return (lit 0) ∷ []) ∷ []) 4
 
 empty_main_ends : end (run empty_main [] 5) ≡ Exit (pos 0)
 empty_main_ends = refl
 
-empty_main_steps : step_actions (steps (run empty_main [] 5)) ≡ (act.Enter 2 [] ∷ act.Return 2 (Some (value.Int (pos 0))) ∷ [])
+empty_main_steps : step_actions (steps (run empty_main [] 5)) ≡ (act.Enter 4 [] ∷ act.Return 4 (Some (value.Int (pos 0))) ∷ [])
 empty_main_steps = refl
 
 -- ---- int main(void) { }
 
-fallen_off_main : end (run (program [] [] (function int [] [] ∷ []) 2) [] 5) ≡ Exit (pos 0)
+fallen_off_main : end (run (program [] [] (function int [] [] ∷ []) 4) [] 5) ≡ Exit (pos 0)
 fallen_off_main = refl
 
 -- ---- int a[10]; int main(void) { a[i] = 1; return 0; }
 
 abbrev pub array_write : ℕ → Core
-array_write i = program (declared (array_of int 10) ∷ []) (zero_cell ∷ []) (function int [] (s.Eval (assign (index (global 0) (lit i)) int (lit 1)) ∷ return (lit 0) ∷ []) ∷ []) 2
+array_write i = program (declared (array_of int 10) ∷ []) (zero_cell ∷ []) (function int [] (s.Eval (assign (index (global 0) (lit i)) int (lit 1)) ∷ return (lit 0) ∷ []) ∷ []) 4
 
 within_ends : end (run (array_write 9) [] 5) ≡ Exit (pos 0)
 within_ends = refl
@@ -149,7 +149,7 @@ two_past_steps = refl
 -- ---- int x = V; int f(void) { return 0; } int g(void) { return 1; } int main(void) { return x && f() || g(); }
 
 abbrev pub short_circuits : ℕ → Core
-short_circuits x = program (declared int ∷ []) ((value.Int (pos x) ∷ []) ∷ []) (function int [] (return (lit 0) ∷ []) ∷ function int [] (return (lit 1) ∷ []) ∷ function int [] (return (either (both (load (global 0)) (invoke 2)) (invoke 3)) ∷ []) ∷ []) 4
+short_circuits x = program (declared int ∷ []) ((value.Int (pos x) ∷ []) ∷ []) (function int [] (return (lit 0) ∷ []) ∷ function int [] (return (lit 1) ∷ []) ∷ function int [] (return (either (both (load (global 0)) (invoke 4)) (invoke 5)) ∷ []) ∷ []) 6
 
 zero_short_ends : end (run (short_circuits 0) [] 10) ≡ Exit (pos 1)
 zero_short_ends = refl
@@ -170,10 +170,10 @@ loop_continues =
     program (declared int ∷ []) (zero_cell ∷ [])
     (function type.Void [] (s.Eval (assign (global 0) int (binary op.Add kind.Int (load (global 0)) (lit 1))) ∷ [])
     ∷ function int [] (s.Eval (assign (global 0) int (lit 0))
-    ∷ s.For' (Some (compare comparing.Less (load (global 0)) (lit 2))) (Some (invoke 2)) tt (more_of-Stmt s.Continue end_of-Stmt)
+    ∷ s.For' (Some (compare comparing.Less (load (global 0)) (lit 2))) (Some (invoke 4)) tt (more_of-Stmt s.Continue end_of-Stmt)
     ∷ return (lit 0)
     ∷ [])
-    ∷ []) 3
+    ∷ []) 5
 
 loop_ends : end (run loop_continues [] 20) ≡ Exit (pos 0)
 loop_ends = refl
@@ -188,7 +188,7 @@ loop_spent = refl
 -- ---- int main(void) { return E; }
 
 abbrev pub returning : Expr → Core
-returning a = program [] [] (function int [] (return a ∷ []) ∷ []) 2
+returning a = program [] [] (function int [] (return a ∷ []) ∷ []) 4
 
 -- 2147483647 + 1
 overflow_ends : end (run (returning (binary op.Add kind.Int (lit 2147483647) (lit 1))) [] 5) ≡ Fault fault.Overflow
@@ -204,7 +204,7 @@ wrap_ends = refl
 -- ---- char c; int main(void) { c = 200; return c; }
 
 abbrev pub narrowing : Core
-narrowing = program (declared (type.Int kind.Char) ∷ []) (zero_cell ∷ []) (function int [] (s.Eval (assign (global 0) (type.Int kind.Char) (convert kind.Char (lit 200))) ∷ return (convert kind.Int (e.Load (global 0) (type.Int kind.Char))) ∷ []) ∷ []) 2
+narrowing = program (declared (type.Int kind.Char) ∷ []) (zero_cell ∷ []) (function int [] (s.Eval (assign (global 0) (type.Int kind.Char) (convert kind.Char (lit 200))) ∷ return (convert kind.Int (e.Load (global 0) (type.Int kind.Char))) ∷ []) ∷ []) 4
 
 narrowing_ends : end (run narrowing [] 5) ≡ Exit (negsuc 55)
 narrowing_ends = refl
@@ -222,8 +222,8 @@ dangling =
     program (declared (pointer_to int) ∷ []) ((value.Null ∷ []) ∷ [])
     (function type.Void (declared int ∷ []) (initialise 5 ∷ s.Eval (assign (global 0) (pointer_to int) (e.Address (local 0) int)) ∷ [])
     ∷ function type.Void (declared int ∷ []) (initialise 7 ∷ [])
-    ∷ function int [] (s.Eval (invoke 2) ∷ s.Eval (invoke 3) ∷ return (load (deref (e.Load (global 0) (pointer_to int)))) ∷ [])
-    ∷ []) 4
+    ∷ function int [] (s.Eval (invoke 4) ∷ s.Eval (invoke 5) ∷ return (load (deref (e.Load (global 0) (pointer_to int)))) ∷ [])
+    ∷ []) 6
 
 dangling_ends : end (run dangling [] 20) ≡ Fault fault.Invalid
 dangling_ends = refl
@@ -234,7 +234,7 @@ dangling_steps = refl
 -- ---- int main(void) { int i; return i; }
 
 abbrev pub uninitialised : Core
-uninitialised = program [] [] (function int (declared int ∷ []) (s.Empty ∷ return (load (local 0)) ∷ []) ∷ []) 2
+uninitialised = program [] [] (function int (declared int ∷ []) (s.Empty ∷ return (load (local 0)) ∷ []) ∷ []) 4
 
 uninitialised_ends : end (run uninitialised [] 5) ≡ Fault fault.Uninit
 uninitialised_ends = refl
@@ -245,12 +245,12 @@ uninitialised_steps = refl
 -- ---- int f(void) { } int main(void) { return f(); }
 
 abbrev pub no_return : Core
-no_return = program [] [] (function int [] [] ∷ function int [] (return (invoke 2) ∷ []) ∷ []) 3
+no_return = program [] [] (function int [] [] ∷ function int [] (return (invoke 4) ∷ []) ∷ []) 5
 
 no_return_ends : end (run no_return [] 5) ≡ Fault fault.NoReturn
 no_return_ends = refl
 
-no_return_steps : step_actions (steps (run no_return [] 5)) ≡ (act.Enter 3 [] ∷ act.Call 2 ∷ act.Enter 2 [] ∷ act.Halt fault.NoReturn ∷ [])
+no_return_steps : step_actions (steps (run no_return [] 5)) ≡ (act.Enter 5 [] ∷ act.Call 4 ∷ act.Enter 4 [] ∷ act.Halt fault.NoReturn ∷ [])
 no_return_steps = refl
 
 -- ---- int main(void) { int c; c = getchar(); while (c != -1) { putchar(c); c = getchar(); } return 0; }
@@ -270,7 +270,7 @@ echo =
     ∷ s.While' (compare comparing.Unequal (load (local 0)) (e.Literal kind.Int (negsuc 0))) tt (more_of-Stmt (s.Block' (tt ∷ tt ∷ []) (more_of-Stmt put_it (more_of-Stmt get_next end_of-Stmt))) end_of-Stmt)
     ∷ return (lit 0)
     ∷ [])
-    ∷ []) 2
+    ∷ []) 4
 
 echo_ends : end (run echo (codes "hi") 50) ≡ Exit (pos 0)
 echo_ends = refl
@@ -284,7 +284,7 @@ echo_output = refl
 -- ---- int *p; int x; int main(void) { *p = 1; return 0; }
 
 abbrev pub null_write : Core
-null_write = program (declared (pointer_to int) ∷ declared int ∷ []) ((value.Null ∷ []) ∷ zero_cell ∷ []) (function int [] (s.Eval (assign (deref (e.Load (global 0) (pointer_to int))) int (lit 1)) ∷ return (lit 0) ∷ []) ∷ []) 2
+null_write = program (declared (pointer_to int) ∷ declared int ∷ []) ((value.Null ∷ []) ∷ zero_cell ∷ []) (function int [] (s.Eval (assign (deref (e.Load (global 0) (pointer_to int))) int (lit 1)) ∷ return (lit 0) ∷ []) ∷ []) 4
 
 null_write_ends : end (run null_write [] 5) ≡ Fault fault.Invalid
 null_write_ends = refl
@@ -301,7 +301,7 @@ abbrev pub assert_zero : Stmt
 assert_zero = s.Assert Safe 1 (is.Relation comparing.Equal (global_term 0) (t.Int (pos 0)))
 
 abbrev pub asserting : List Stmt → Core
-asserting first = program (declared int ∷ []) (zero_cell ∷ []) (function int [] first ∷ []) 2
+asserting first = program (declared int ∷ []) (zero_cell ∷ []) (function int [] first ∷ []) 4
 
 abbrev pub write_two : List Stmt
 write_two = s.Eval (assign (global 0) int (lit 2)) ∷ return (lit 0) ∷ []
@@ -335,8 +335,8 @@ setting_ghost a =
       globals = declared int ∷ [];
       initial = zero_cell ∷ [];
       ghosts = declared int ∷ [];
-      functions = library ∷ library ∷ function int [] (s.Empty ∷ s.Ghost (Set ghost_variable a) ∷ s.Assert Safe 1 (is.Relation comparing.Equal ghost_term ghost_term) ∷ return (lit 0) ∷ []) ∷ [];
-      start = 2;
+      functions = library ∷ library ∷ library ∷ library ∷ function int [] (s.Empty ∷ s.Ghost (Set ghost_variable a) ∷ s.Assert Safe 1 (is.Relation comparing.Equal ghost_term ghost_term) ∷ return (lit 0) ∷ []) ∷ [];
+      start = 4;
     }
 
 abbrev pub found : List Item → List Bool
@@ -363,7 +363,7 @@ ghost_no_step = refl
 -- ---- void f(void) { int a[160]; f(); } int main(void) { f(); return 0; }
 
 abbrev pub deep : Core
-deep = program [] [] (function type.Void (declared (array_of int 160) ∷ []) (s.Empty ∷ s.Eval (invoke 2) ∷ []) ∷ function int [] (s.Eval (invoke 2) ∷ return (lit 0) ∷ []) ∷ []) 3
+deep = program [] [] (function type.Void (declared (array_of int 160) ∷ []) (s.Empty ∷ s.Eval (invoke 4) ∷ []) ∷ function int [] (s.Eval (invoke 4) ∷ return (lit 0) ∷ []) ∷ []) 5
 
 -- four activations of f fill 40 chunks
 cells_full : outcome deep [] 50 40 1000 ≡ record { made = 10; end = CellsFull }
@@ -383,10 +383,10 @@ repeated =
     (function type.Void (declared (array_of int 160) ∷ []) (s.Empty ∷ s.Eval (assign (index (local 0) (lit 0)) int (lit 1)) ∷ [])
     ∷ function int (declared int ∷ []) (s.Empty
     ∷ s.Eval (assign (local 0) int (lit 0))
-    ∷ s.For' (Some (compare comparing.Less (load (local 0)) (lit 3))) (Some (assign (local 0) int (binary op.Add kind.Int (load (local 0)) (lit 1)))) tt (more_of-Stmt (s.Eval (invoke 2)) end_of-Stmt)
+    ∷ s.For' (Some (compare comparing.Less (load (local 0)) (lit 3))) (Some (assign (local 0) int (binary op.Add kind.Int (load (local 0)) (lit 1)))) tt (more_of-Stmt (s.Eval (invoke 4)) end_of-Stmt)
     ∷ return (lit 0)
     ∷ [])
-    ∷ []) 3
+    ∷ []) 5
 
 -- chunks given back serve again: at most 11 are live
 given_back : outcome repeated [] 50 11 1000 ≡ record { made = 29; end = Exited (pos 0) }
@@ -397,5 +397,5 @@ not_enough = refl
 
 -- ---- int a[1616]; int main(void) { return 0; }
 
-globals_full : outcome (program (declared (array_of int 1616) ∷ []) (zero_cell ∷ []) (function int [] (return (lit 0) ∷ []) ∷ []) 2) [] 50 100 1000 ≡ record { made = 0; end = CellsFull }
+globals_full : outcome (program (declared (array_of int 1616) ∷ []) (zero_cell ∷ []) (function int [] (return (lit 0) ∷ []) ∷ []) 4) [] 50 100 1000 ≡ record { made = 0; end = CellsFull }
 globals_full = refl

@@ -68,7 +68,7 @@ main = record {
 }
 
 abbrev pub q : Core
-q = record { layouts = layout ∷ []; globals = []; initial = []; ghosts = []; functions = library ∷ library ∷ add ∷ nothing ∷ library ∷ main ∷ []; start = 5 }
+q = record { layouts = layout ∷ []; globals = []; initial = []; ghosts = []; functions = library ∷ library ∷ library ∷ library ∷ add ∷ nothing ∷ library ∷ main ∷ []; start = 7 }
 
 abbrev pub typed : Expr → Option CType
 typed a = type_of q (code_setting q main) a
@@ -366,7 +366,7 @@ not_pointer = refl
 both_scalars : typed (both pointer c) ≡ Some int
 both_scalars = refl
 
-not_void : typed (e.Not' tt (more_of-Expr (call_none 3) end_of-Expr)) ≡ None
+not_void : typed (e.Not' tt (more_of-Expr (call_none 5) end_of-Expr)) ≡ None
 not_void = refl
 
 -- i ? p : 0, i ? 0 : p, i ? 1 : 2, i ? c : c without promotion, i ? p : q, i ? (void) 1 : (void) 2, i ? 1 : (void) 2
@@ -475,31 +475,31 @@ array_forward = refl
 -- ---- calls
 
 -- add(p, c), add(0, c), add(p), add(p, i), nothing(), nothing(i), a function without body, `main`, and a function that isn't there
-called : typed (call_two 2 pointer c) ≡ Some int
+called : typed (call_two 4 pointer c) ≡ Some int
 called = refl
 
-called_with_null : typed (call_two 2 e.Null c) ≡ Some int
+called_with_null : typed (call_two 4 e.Null c) ≡ Some int
 called_with_null = refl
 
-too_few : typed (call_one 2 pointer) ≡ None
+too_few : typed (call_one 4 pointer) ≡ None
 too_few = refl
 
-wrong_argument : typed (call_two 2 pointer i) ≡ None
+wrong_argument : typed (call_two 4 pointer i) ≡ None
 wrong_argument = refl
 
-called_void : typed (call_none 3) ≡ Some type.Void
+called_void : typed (call_none 5) ≡ Some type.Void
 called_void = refl
 
-too_many : typed (call_one 3 i) ≡ None
+too_many : typed (call_one 5 i) ≡ None
 too_many = refl
 
-called_without_body : typed (call_none 4) ≡ None
+called_without_body : typed (call_none 6) ≡ None
 called_without_body = refl
 
-called_main : typed (call_none 5) ≡ None
+called_main : typed (call_none 7) ≡ None
 called_main = refl
 
-called_none : typed (call_none 6) ≡ None
+called_none : typed (call_none 8) ≡ None
 called_none = refl
 
 -- getchar(), putchar(i), putchar(c) without conversion, (void) p
@@ -516,5 +516,5 @@ discarded : typed (discard pointer) ≡ Some type.Void
 discarded = refl
 
 -- an operand of type `void`
-sum_of_void : typed (binary op.Add kind.Int i (call_none 3)) ≡ None
+sum_of_void : typed (binary op.Add kind.Int i (call_none 5)) ≡ None
 sum_of_void = refl

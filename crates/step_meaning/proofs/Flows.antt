@@ -15,7 +15,7 @@ use Rattle.step_meaning.specs.declared.expr.Side.TheVariants.{PointerFirst, Poin
 use Rattle.step_meaning.specs.declared.expr.UpdateOp.{UpdateOp}
 use Rattle.step_meaning.specs.declared.expr.UpdateOp.TheVariants.{Integer, Forward, Backward}
 use Rattle.step_meaning.specs.declared.expr.Expr.{Expr, Row_of-Expr, end_of-Expr, more_of-Expr}
-use Rattle.step_meaning.specs.declared.expr.Expr.TheVariants.{Literal, Null, Load, Address, Convert', Unary', Binary', Compare', Move', Difference', Not', Both', Either', Choose', Assign', Update', Invoke', GetChar, PutChar', Discard', Own, Deref', Member', Index'}
+use Rattle.step_meaning.specs.declared.expr.Expr.TheVariants.{Literal, Null, Load, Address, Convert', Unary', Binary', Compare', Move', Difference', Not', Both', Either', Choose', Assign', Update', Invoke', GetChar, PutChar', Malloc', Free', Discard', Own, Deref', Member', Index'}
 use Rattle.step_meaning.specs.declared.expr.Place_.{Place_, end_of-Place_, more_of-Place_}
 use Rattle.step_meaning.specs.declared.predicate.Predicate.{Predicate}
 use Rattle.step_meaning.specs.declared.stmt.VerdictKind.{VerdictKind}
@@ -25,19 +25,22 @@ use Rattle.step_meaning.specs.declared.stmt.Stmt.TheVariants as st
 use Rattle.step_meaning.specs.declared.program.Core.{Core}
 use Rattle.step_meaning.specs.declared.program.Function.{Function}
 use Rattle.step_meaning.specs.declared.program.Layout.{Layout}
-use Rattle.step_meaning.specs.Names.{truth, of_truth, moved}
-use Rattle.step_meaning.specs.Memory.{room_at, reached, stored}
+use Rattle.step_meaning.specs.Numbers.{low_bits}
+use Rattle.step_meaning.specs.Names.{truth, of_truth, integer, moved}
+use Rattle.step_meaning.specs.Memory.{Memory, Block, room_at, reached, stored, freed}
 use Rattle.step_meaning.specs.Steps.{More, Fault, Stop}
 use Rattle.step_meaning.specs.State.{Here, unset_registers, Lvalue, InRegister, At, register_at, set_register, designated}
 use Rattle.step_meaning.specs.Flow.{resting, Resting, RestingCall, direct, Direct, DirectCall, CallGives, Returned as ReturnedCall, Ended}
 use Rattle.step_meaning.specs.Accesses as acc
+use Rattle.step_meaning.specs.Allocation as al
+use Rattle.step_meaning.specs.Allocation.{block_for}
 use Rattle.step_meaning.specs.Expressions as ex
 use Rattle.step_meaning.specs.Statements as sm
 use Rattle.step_meaning.specs.Statements.{Completion, Next, Broken, Continued, Returned}
 use Rattle.step_meaning.specs.Calls as ca
 use Rattle.step_meaning.specs.Calls.{annotations, after_annotations}
 use Rattle.step_meaning.specs.Runs.{run, direct_run, logged_by, start_state, start_world, exit_of, trace_of}
-use Rattle.step_meaning.proofs.Tells.{rest_after_call, Tells, CallTells, tells_bind, tells_then, tells_pure, tells_stop, tells_get, tells_put_memory, tells_put_ghosts, tells_put_input, tells_put_made, tells_registers, tells_put_registers, tells_judge, tells_halt, tells_misuse, tells_cond, tells_emit, call_tells_alone, tells_through}
+use Rattle.step_meaning.proofs.Tells.{rest_after_call, Tells, CallTells, tells_bind, tells_then, tells_pure, tells_stop, tells_get, tells_put_memory, tells_put_ghosts, tells_put_input, tells_put_made, tells_put_allocated, tells_registers, tells_put_registers, tells_judge, tells_halt, tells_misuse, tells_cond, tells_emit, call_tells_alone, tells_through}
 
 module _ (here : Here) where
   tells_checked : {A : Type 0} (c : Result A RunFault) → Tells (acc.checked resting here c) (acc.checked direct here c)
@@ -106,6 +109,20 @@ module _ (here : Here) where
   tells_put_char : (v : Value) → Tells (acc.put_char resting here v) (acc.put_char direct here v)
   tells_put_char v = tells_then (tells_emit here _) (tells_pure _)
 
+  tells_allocate_block : (count : ℕ) (b : Option Block) → Tells (al.allocate_block resting here count b) (al.allocate_block direct here count b)
+  tells_allocate_block count None = tells_then (tells_emit here _) (tells_pure value.Null)
+  tells_allocate_block count (Some b) = tells_bind tells_get (λ s. tells_then (tells_emit here _) (tells_then (tells_put_memory _) (tells_then (tells_put_allocated _) (tells_pure _))))
+
+  tells_allocate : (ls : List Layout) (t : CType) (v : Value) → Tells (al.allocate resting here ls t v) (al.allocate direct here ls t v)
+  tells_allocate ls t v = tells_allocate_block (low_bits 64 (integer v)) (block_for ls t (low_bits 64 (integer v)))
+
+  tells_release_to : (m : Option Memory) → Tells (al.release_to resting here m) (al.release_to direct here m)
+  tells_release_to None = tells_halt here fault.BadFree
+  tells_release_to (Some m) = tells_then (tells_put_memory m) (tells_pure _)
+
+  tells_release : (p : Value) → Tells (al.release resting here p) (al.release direct here p)
+  tells_release p = tells_then (tells_emit here (act.Free p)) (tells_bind tells_get (λ s. tells_release_to (freed s.memory p)))
+
   tells_ghost_code : (ls : List Layout) (g : GhostStmt) → Tells (sm.ghost_code resting ls here g) (sm.ghost_code direct ls here g)
   tells_ghost_code ls g = tells_bind tells_get (λ s. tells_bind tells_registers (λ r. tells_put_ghosts _))
 
@@ -114,9 +131,9 @@ module _ (here : Here) where
 
 -- ---- expressions
 
-module _ (here : Here) (call : ℕ → List Value → RestingCall) (call' : ℕ → List Value → DirectCall) (h : (g : ℕ) (vs : List Value) → CallTells (call g vs) (call' g vs)) where
+module _ (ls : List Layout) (here : Here) (call : ℕ → List Value → RestingCall) (call' : ℕ → List Value → DirectCall) (h : (g : ℕ) (vs : List Value) → CallTells (call g vs) (call' g vs)) where
   mutual
-    tells_eval : (e : Expr) → Tells (ex.eval resting call here e) (ex.eval direct call' here e)
+    tells_eval : (e : Expr) → Tells (ex.eval resting ls call here e) (ex.eval direct ls call' here e)
     tells_eval (Literal k z) = tells_pure _
     tells_eval Null = tells_pure _
     tells_eval (Load p t) = tells_bind (tells_place p) (tells_load here t)
@@ -136,15 +153,17 @@ module _ (here : Here) (call : ℕ → List Value → RestingCall) (call' : ℕ 
     tells_eval (Invoke' f b es) = tells_bind (tells_all es) (λ vs. tells_then (tells_emit here _) (tells_through (h f vs)))
     tells_eval GetChar = tells_get_char here
     tells_eval (PutChar' b (more_of-Expr e end_of-Expr)) = tells_bind (tells_eval e) (tells_put_char here)
+    tells_eval (Malloc' b (more_of-Expr e end_of-Expr) t) = tells_bind (tells_eval e) (tells_allocate here ls t)
+    tells_eval (Free' b (more_of-Expr e end_of-Expr)) = tells_bind (tells_eval e) (tells_release here)
     tells_eval (Discard' b (more_of-Expr e end_of-Expr)) = tells_then (tells_eval e) (tells_pure _)
 
-    tells_place : (p : Place_) → Tells (ex.place resting call here p) (ex.place direct call' here p)
+    tells_place : (p : Place_) → Tells (ex.place resting ls call here p) (ex.place direct ls call' here p)
     tells_place (Own v) = tells_pure _
     tells_place (Deref' b (more_of-Expr e end_of-Expr)) = tells_bind (tells_eval e) (λ a. tells_pure _)
     tells_place (Member' b (more_of-Place_ p end_of-Place_) o) = tells_bind (tells_place p) (λ l. tells_object_after here l _)
     tells_place (Index' b (more_of-Place_ p end_of-Place_) c (more_of-Expr e end_of-Expr) size) = tells_bind (tells_place p) (λ l. tells_bind (tells_eval e) (λ i. tells_object_after here l _))
 
-    tells_all : {k : _} (e : Row_of-Expr k) → Tells (ex.all resting call here e) (ex.all direct call' here e)
+    tells_all : {k : _} (e : Row_of-Expr k) → Tells (ex.all resting ls call here e) (ex.all direct ls call' here e)
     tells_all end_of-Expr = tells_pure _
     tells_all (more_of-Expr e more) = tells_bind (tells_eval e) (λ v. tells_bind (tells_all more) (λ vs. tells_pure _))
 
@@ -174,14 +193,14 @@ tells_turns here x zero = tells_stop More
 tells_turns here x (suc k) = tells_then (tells_emit here act.Turn) (tells_bind x (tells_after_turn (tells_turns here x k)))
 
 module _ (ls : List Layout) (here : Here) (call : ℕ → List Value → RestingCall) (call' : ℕ → List Value → DirectCall) (h : (g : ℕ) (vs : List Value) → CallTells (call g vs) (call' g vs)) (k : ℕ) where
-  tells_value : (e : Expr) → Tells (ex.eval resting call here e) (ex.eval direct call' here e)
-  tells_value = tells_eval here call call' h
+  tells_value : (e : Expr) → Tells (ex.eval resting ls call here e) (ex.eval direct ls call' here e)
+  tells_value = tells_eval ls here call call' h
 
-  tells_when : (o : Option Expr) {d : Resting Completion} {d' : Direct Completion} → Tells d d' → Tells (sm.when_test resting (option_map (ex.eval resting call here) o) d) (sm.when_test direct (option_map (ex.eval direct call' here) o) d')
+  tells_when : (o : Option Expr) {d : Resting Completion} {d' : Direct Completion} → Tells d d' → Tells (sm.when_test resting (option_map (ex.eval resting ls call here) o) d) (sm.when_test direct (option_map (ex.eval direct ls call' here) o) d')
   tells_when None a = a
   tells_when (Some e) a = tells_bind (tells_value e) (λ v. tells_cond (truth v) a (tells_pure Broken))
 
-  tells_step_of : (o : Option Expr) → Tells (sm.loop_step resting (option_map (ex.eval resting call here) o)) (sm.loop_step direct (option_map (ex.eval direct call' here) o))
+  tells_step_of : (o : Option Expr) → Tells (sm.loop_step resting (option_map (ex.eval resting ls call here) o)) (sm.loop_step direct (option_map (ex.eval direct ls call' here) o))
   tells_step_of None = tells_pure Next
   tells_step_of (Some e) = tells_bind (tells_value e) (λ v. tells_pure Next)
 

@@ -56,8 +56,8 @@ abbrev pub two_writes : Core
 two_writes =
     program (declared int ∷ declared int ∷ []) (zero_cell ∷ zero_cell ∷ [])
     (function type.Void [] (s.Eval (assign (global 1) int (lit 1)) ∷ [])
-    ∷ function int [] (s.Eval (invoke 2) ∷ s.Eval (assign (global 0) int (lit 2)) ∷ return (lit 0) ∷ [])
-    ∷ []) 3
+    ∷ function int [] (s.Eval (invoke 4) ∷ s.Eval (assign (global 0) int (lit 2)) ∷ return (lit 0) ∷ [])
+    ∷ []) 5
 
 abbrev pub two_writes_steps : List Step
 two_writes_steps = steps (run two_writes [] 5)
@@ -70,7 +70,7 @@ abbrev pub apart_from_x : Predicate
 apart_from_x = is.Separated (record { base = t.Accessed; ctype = type.Void; span = None } ∷ record { base = t.Address (p.Own (variable names.Global 0)) int; ctype = int; span = None } ∷ [])
 
 abbrev pub keep_x : Hooks
-keep_x = hooks [] (point 2 place.Write [] (safe apart_from_x ∷ []) ∷ point 3 place.Write [] (safe apart_from_x ∷ []) ∷ [])
+keep_x = hooks [] (point 4 place.Write [] (safe apart_from_x ∷ []) ∷ point 5 place.Write [] (safe apart_from_x ∷ []) ∷ [])
 
 -- a verdict stands before the fourth step and before the sixth
 keep_x_shape : map is_verdict (fold two_writes keep_x two_writes_steps) ≡ (false ∷ false ∷ false ∷ true ∷ false ∷ false ∷ true ∷ false ∷ false ∷ [])
@@ -84,20 +84,20 @@ keep_x_before_sixth : map (λ v. v.truth) (verdicts_before 6 (fold two_writes ke
 keep_x_before_sixth = refl
 
 -- in `f` alone
-keep_x_in_f : found (fold two_writes (hooks [] (point 2 place.Write [] (safe apart_from_x ∷ []) ∷ [])) two_writes_steps) ≡ (true ∷ [])
+keep_x_in_f : found (fold two_writes (hooks [] (point 4 place.Write [] (safe apart_from_x ∷ []) ∷ [])) two_writes_steps) ≡ (true ∷ [])
 keep_x_in_f = refl
 
 -- ---- a list that isn't traced: a turn of `main` before its Enter. The fold of its first step isn't the beginning of the fold of both
 
 abbrev holding : ℤ → Memory
-holding z = record { globals = (record { declared = int; cell = Holds (value.Int z) } ∷ []) ∷ (record { declared = int; cell = Nothing } ∷ []) ∷ []; frames = record { activation = 0; locals = [] } ∷ [] }
+holding z = record { globals = (record { declared = int; cell = Holds (value.Int z) } ∷ []) ∷ (record { declared = int; cell = Nothing } ∷ []) ∷ []; frames = record { activation = 0; locals = [] } ∷ []; heap = [] }
 
 abbrev turn_before_enter : List Step
-turn_before_enter = record { action = act.Turn; function = 3; activation = 0; memory = holding (pos 1) } ∷ record { action = act.Enter 3 []; function = 3; activation = 0; memory = holding (pos 1) } ∷ []
+turn_before_enter = record { action = act.Turn; function = 5; activation = 0; memory = holding (pos 1) } ∷ record { action = act.Enter 5 []; function = 5; activation = 0; memory = holding (pos 1) } ∷ []
 
 -- at each step: `x == \at(x, Pre)`
 abbrev unchanged : Hooks
-unchanged = hooks [] (point 3 place.Changed [] (safe (is.Relation comparing.Equal (read names.Global 0) (t.AtPre (p.Own (variable names.Global 0)) int)) ∷ []) ∷ [])
+unchanged = hooks [] (point 5 place.Changed [] (safe (is.Relation comparing.Equal (read names.Global 0) (t.AtPre (p.Own (variable names.Global 0)) int)) ∷ []) ∷ [])
 
 turn_alone : found (fold two_writes unchanged (take 1 turn_before_enter)) ≡ (false ∷ [])
 turn_alone = refl
@@ -108,7 +108,7 @@ turn_among_both = refl
 -- ---- places and actions: a verdict at each step that a point of `main` fits
 
 abbrev pub marks : HookPlace → List Bool
-marks at = map is_verdict (fold two_writes (hooks [] (point 3 at [] (safe is.True ∷ []) ∷ [])) two_writes_steps)
+marks at = map is_verdict (fold two_writes (hooks [] (point 5 at [] (safe is.True ∷ []) ∷ [])) two_writes_steps)
 
 enter_marks : marks place.Enter ≡ (true ∷ false ∷ false ∷ false ∷ false ∷ false ∷ false ∷ false ∷ [])
 enter_marks = refl
@@ -124,11 +124,11 @@ changed_marks : marks place.Changed ≡ (true ∷ false ∷ true ∷ false ∷ f
 changed_marks = refl
 
 -- `\called == f`
-called_verdict : found (fold two_writes (hooks [] (point 3 place.Call [] (safe (is.Called 2 true) ∷ safe (is.Called 3 true) ∷ []) ∷ [])) two_writes_steps) ≡ (true ∷ false ∷ [])
+called_verdict : found (fold two_writes (hooks [] (point 5 place.Call [] (safe (is.Called 4 true) ∷ safe (is.Called 5 true) ∷ []) ∷ [])) two_writes_steps) ≡ (true ∷ false ∷ [])
 called_verdict = refl
 
 -- what `main` returns
-result_verdict : found (fold two_writes (hooks [] (point 3 place.Return [] (safe (is.Relation comparing.Equal (t.Result 3) (t.Int (pos 0))) ∷ []) ∷ [])) two_writes_steps) ≡ (true ∷ [])
+result_verdict : found (fold two_writes (hooks [] (point 5 place.Return [] (safe (is.Relation comparing.Equal (t.Result 5) (t.Int (pos 0))) ∷ []) ∷ [])) two_writes_steps) ≡ (true ∷ [])
 result_verdict = refl
 
 -- ---- int x; void f(int n) { x = x + 1; if (n > 0) { f(n - 1); x = x - 1; } } int main(void) { f(1); return 0; }
@@ -140,7 +140,7 @@ abbrev subtract : Expr → Expr
 subtract a = binary op.Sub kind.Int a (lit 1)
 
 abbrev call_f : Expr → Stmt
-call_f a = s.Eval (e.Invoke' 2 (tt ∷ []) (more_of-Expr a end_of-Expr))
+call_f a = s.Eval (e.Invoke' 4 (tt ∷ []) (more_of-Expr a end_of-Expr))
 
 abbrev pub recursion : Core
 recursion =
@@ -151,7 +151,7 @@ recursion =
     tt (more_of-Stmt s.Empty end_of-Stmt)
     ∷ [])) { params = 1 }
     ∷ function int [] (call_f (lit 1) ∷ return (lit 0) ∷ [])
-    ∷ []) 3
+    ∷ []) 5
 
 abbrev pub recursion_steps : List Step
 recursion_steps = steps (run recursion [] 5)
@@ -167,28 +167,28 @@ abbrev pub save : NameKind → Stmt
 save k = s.Ghost (Set (variable k 0) (read names.Global 0))
 
 -- a ghost variable of the function tells the two activations apart
-saved_in_function : found (fold recursion (hooks [] (point 2 place.Enter (declared int ∷ []) (save names.GhostLocal ∷ []) ∷ point 2 place.Return [] (one_more names.GhostLocal ∷ []) ∷ [])) recursion_steps) ≡ (true ∷ true ∷ [])
+saved_in_function : found (fold recursion (hooks [] (point 4 place.Enter (declared int ∷ []) (save names.GhostLocal ∷ []) ∷ point 4 place.Return [] (one_more names.GhostLocal ∷ []) ∷ [])) recursion_steps) ≡ (true ∷ true ∷ [])
 saved_in_function = refl
 
 -- one of file scope doesn't
-saved_in_file : found (fold recursion (hooks (declared int ∷ []) (point 2 place.Enter [] (save names.GhostGlobal ∷ []) ∷ point 2 place.Return [] (one_more names.GhostGlobal ∷ []) ∷ [])) recursion_steps) ≡ (true ∷ false ∷ [])
+saved_in_file : found (fold recursion (hooks (declared int ∷ []) (point 4 place.Enter [] (save names.GhostGlobal ∷ []) ∷ point 4 place.Return [] (one_more names.GhostGlobal ∷ []) ∷ [])) recursion_steps) ≡ (true ∷ false ∷ [])
 saved_in_file = refl
 
 -- a parameter at Enter: 1, then 0
-parameter_verdicts : found (fold recursion (hooks [] (point 2 place.Enter [] (safe (is.Relation comparing.Equal (t.Parameter 2 0) (t.Int (pos 1))) ∷ []) ∷ [])) recursion_steps) ≡ (true ∷ false ∷ [])
+parameter_verdicts : found (fold recursion (hooks [] (point 4 place.Enter [] (safe (is.Relation comparing.Equal (t.Parameter 4 0) (t.Int (pos 1))) ∷ []) ∷ [])) recursion_steps) ≡ (true ∷ false ∷ [])
 parameter_verdicts = refl
 
 -- a save that was not set holds nothing, a ghost variable of file scope 0; the order of points and of code counts
 unset_verdicts :
     found (fold recursion (hooks (declared int ∷ [])
-    (point 3 place.Enter (declared int ∷ []) (safe (is.Relation comparing.Equal (read names.GhostLocal 0) (read names.GhostLocal 0)) ∷ safe (is.Relation comparing.Equal (read names.GhostGlobal 0) (t.Int (pos 0))) ∷ [])
-    ∷ point 3 place.Enter [] (s.Ghost (Set (variable names.GhostGlobal 0) (t.Int (pos 4))) ∷ safe (is.Relation comparing.Equal (read names.GhostGlobal 0) (t.Int (pos 4))) ∷ [])
+    (point 5 place.Enter (declared int ∷ []) (safe (is.Relation comparing.Equal (read names.GhostLocal 0) (read names.GhostLocal 0)) ∷ safe (is.Relation comparing.Equal (read names.GhostGlobal 0) (t.Int (pos 0))) ∷ [])
+    ∷ point 5 place.Enter [] (s.Ghost (Set (variable names.GhostGlobal 0) (t.Int (pos 4))) ∷ safe (is.Relation comparing.Equal (read names.GhostGlobal 0) (t.Int (pos 4))) ∷ [])
     ∷ [])) recursion_steps)
     ≡ (false ∷ true ∷ true ∷ [])
 unset_verdicts = refl
 
 -- ghosts of file scope that are numbered from 1 on: number 0 isn't the hooks' own, and has no cell
 numbered_verdicts :
-    found (fold recursion (record (hooks (declared int ∷ []) (point 3 place.Enter [] (safe (is.Relation comparing.Equal (read names.GhostGlobal 1) (t.Int (pos 0))) ∷ safe (is.Relation comparing.Equal (read names.GhostGlobal 0) (t.Int (pos 0))) ∷ []) ∷ [])) { first = 1 }) recursion_steps)
+    found (fold recursion (record (hooks (declared int ∷ []) (point 5 place.Enter [] (safe (is.Relation comparing.Equal (read names.GhostGlobal 1) (t.Int (pos 0))) ∷ safe (is.Relation comparing.Equal (read names.GhostGlobal 0) (t.Int (pos 0))) ∷ []) ∷ [])) { first = 1 }) recursion_steps)
     ≡ (true ∷ false ∷ [])
 numbered_verdicts = refl

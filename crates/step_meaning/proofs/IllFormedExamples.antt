@@ -27,8 +27,8 @@ use Rattle.step_meaning.specs.StatementRules.{StatementFits}
 use Rattle.step_meaning.specs.Runs.{run}
 use Rattle.step_meaning.specs.FaultsHalt.{FaultsHalt}
 use Rattle.step_meaning.specs.WellFormed.{IsWellFormed, IsWellFormedFunction}
-use Rattle.step_meaning.proofs.Examples.{int, array_of, lit, local, return}
-use Rattle.step_meaning.proofs.WellFormedExamples.{named, char, node, node_layout, list, getchar, putchar, add, main, main_with, adding}
+use Rattle.step_meaning.proofs.Examples.{declared, int, array_of, lit, local, return}
+use Rattle.step_meaning.proofs.WellFormedExamples.{named, char, node, node_layout, list, getchar, putchar, malloc, free, add, main, main_with, adding}
 
 refuted : {A : Type 0} → IsTrue false → A
 refuted e = absurd (no e)
@@ -125,24 +125,37 @@ ghost_array w = refuted w.ghosts
 -- ---- functions
 
 -- `getchar` isn't the first function
-getchar_elsewhere : IsWellFormed (record adding { functions = putchar ∷ getchar ∷ add ∷ main ∷ [] }) → ⊥
+getchar_elsewhere : IsWellFormed (record adding { functions = putchar ∷ getchar ∷ malloc ∷ free ∷ add ∷ main ∷ [] }) → ⊥
 getchar_elsewhere w = refuted w.getchar
 
 -- `putchar` has a body
-putchar_with_body : IsWellFormed (record adding { functions = getchar ∷ record putchar { body = Some [] } ∷ add ∷ main ∷ [] }) → ⊥
+putchar_with_body : IsWellFormed (record adding { functions = getchar ∷ record putchar { body = Some [] } ∷ malloc ∷ free ∷ add ∷ main ∷ [] }) → ⊥
 putchar_with_body w = refuted w.putchar
 
+-- `malloc` gives back an `int *`, `free` isn't the function 3, `malloc` has a second local, and `free` a register
+int_malloc : IsWellFormed (record adding { functions = getchar ∷ putchar ∷ record malloc { result = pointer_to int } ∷ free ∷ add ∷ main ∷ [] }) → ⊥
+int_malloc w = refuted w.malloc
+
+free_elsewhere : IsWellFormed (record adding { functions = getchar ∷ putchar ∷ malloc ∷ add ∷ free ∷ main ∷ [] }) → ⊥
+free_elsewhere w = refuted w.free
+
+malloc_with_local : IsWellFormed (record adding { functions = getchar ∷ putchar ∷ record malloc { locals = declared (type.Int kind.ULong) ∷ declared int ∷ [] } ∷ free ∷ add ∷ main ∷ [] }) → ⊥
+malloc_with_local w = refuted w.malloc
+
+free_with_register : IsWellFormed (record adding { functions = getchar ∷ putchar ∷ malloc ∷ record free { registers = declared int ∷ [] } ∷ add ∷ main ∷ [] }) → ⊥
+free_with_register w = refuted w.free
+
 abbrev with_main : Function → Core
-with_main f = record adding { functions = getchar ∷ putchar ∷ add ∷ f ∷ [] }
+with_main f = record adding { functions = getchar ∷ putchar ∷ malloc ∷ free ∷ add ∷ f ∷ [] }
 
 -- no `main`, `main` without a body, of another name, with a parameter, with another result
-no_main : IsWellFormed (record adding { start = 4 }) → ⊥
+no_main : IsWellFormed (record adding { start = 6 }) → ⊥
 no_main w = refuted w.main
 
 main_without_body : IsWellFormed (with_main (record main { body = None })) → ⊥
 main_without_body w = refuted w.main
 
-another_start : IsWellFormed (record adding { start = 2 }) → ⊥
+another_start : IsWellFormed (record adding { start = 4 }) → ⊥
 another_start w = refuted w.main
 
 main_with_parameter : IsWellFormed (with_main (record main { params = 1 })) → ⊥
@@ -152,13 +165,17 @@ void_main : IsWellFormed (with_main (record main { result = type.Void })) → �
 void_main w = refuted w.main
 
 abbrev with_add : Function → Core
-with_add f = record adding { functions = getchar ∷ putchar ∷ f ∷ main ∷ [] }
+with_add f = record adding { functions = getchar ∷ putchar ∷ malloc ∷ free ∷ f ∷ main ∷ [] }
 
 add_of : {f : Function} → IsWellFormed (with_add f) → IsWellFormedFunction (with_add f) f
 add_of w = w.functions.1.1.0
 
 main_of : (f : Function) → IsWellFormed (with_main f) → IsWellFormedFunction (with_main f) f
 main_of f w = w.functions.1.1.1.0
+
+-- another function takes a pointer to `void`
+void_pointer_parameter : IsWellFormed (with_add (record add { params = 1; locals = named (codes "q") (pointer_to type.Void) ∷ named (codes "c") char ∷ [] })) → ⊥
+void_pointer_parameter w = refuted (add_of w).parameters
 
 -- the result is a struct
 struct_function : IsWellFormed (with_add (record add { result = node })) → ⊥
@@ -272,14 +289,14 @@ monitor_seventeen w = refuted (statement_of (asserting 17) w).0
 abbrev calling : ℕ → Stmt
 calling f = s.Eval (e.Invoke' f [] end_of-Expr)
 
-calls_main : IsWellFormed (with_main (doing (calling 3))) → ⊥
-calls_main w = refuted (statement_of (calling 3) w)
+calls_main : IsWellFormed (with_main (doing (calling 5))) → ⊥
+calls_main w = refuted (statement_of (calling 5) w)
 
 calls_getchar : IsWellFormed (with_main (doing (calling 0))) → ⊥
 calls_getchar w = refuted (statement_of (calling 0) w)
 
-calls_none : IsWellFormed (with_main (doing (calling 4))) → ⊥
-calls_none w = refuted (statement_of (calling 4) w)
+calls_none : IsWellFormed (with_main (doing (calling 6))) → ⊥
+calls_none w = refuted (statement_of (calling 6) w)
 
 -- ---- names
 
@@ -352,7 +369,7 @@ keyword_member w = refuted w.member_names
 break_run : FaultsHalt (run (with_main (doing s.Break)) [] 5) → ⊥
 break_run h = no h
   where
-    no : {q : List Value} → act.Enter 3 q ≡ act.Halt fault.Invalid → ⊥
+    no : {q : List Value} → act.Enter 5 q ≡ act.Halt fault.Invalid → ⊥
     no e = cc
 
 -- and so does that of a call of a function without a body

@@ -90,12 +90,14 @@ step_judged view cells (act.Return g v) e h = ((λ safe. refl), λ never. tt)
 step_judged view cells (act.Read p) e h = ((λ safe. refl), λ never. tt)
 step_judged view cells act.Input e h = ((λ safe. refl), λ never. tt)
 step_judged view cells (act.Output b) e h = ((λ safe. refl), λ never. tt)
+step_judged view cells (act.Malloc n p k) e h = ((λ safe. refl), λ never. tt)
+step_judged view cells (act.Free p) e h = ((λ safe. refl), λ never. tt)
 step_judged view cells act.Turn e h = ((λ safe. refl), λ never. tt)
 step_judged view cells (act.Halt f) e h = ((λ safe. refl), λ never. tt)
 
 -- the two functions with a body
 abbrev IsOne : ℕ → Type 0
-IsOne g = (g ≡ 2) ⊎ (g ≡ 3)
+IsOne g = (g ≡ 4) ⊎ (g ≡ 5)
 
 abbrev pub with_body : Option Function → Bool
 with_body None = false
@@ -110,19 +112,27 @@ is_one (suc zero) h = absurd (no h)
   where
     no : false ≡ true → ⊥
     no e = cc
-is_one (suc (suc zero)) h = inl refl
-is_one (suc (suc (suc zero))) h = inr refl
-is_one (suc (suc (suc (suc g)))) h = absurd (no h)
+is_one (suc (suc zero)) h = absurd (no h)
+  where
+    no : false ≡ true → ⊥
+    no e = cc
+is_one (suc (suc (suc zero))) h = absurd (no h)
+  where
+    no : false ≡ true → ⊥
+    no e = cc
+is_one (suc (suc (suc (suc zero)))) h = inl refl
+is_one (suc (suc (suc (suc (suc zero))))) h = inr refl
+is_one (suc (suc (suc (suc (suc (suc g)))))) h = absurd (no h)
   where
     no : false ≡ true → ⊥
     no e = cc
 
 -- each of the two points has the code, at a write of its function
-code_found : (g : ℕ) (b : Bool) → IsOne g → cond ((2 == g) && b) code [] ++ (cond ((3 == g) && b) code [] ++ []) ≡ cond b code []
-code_found g true (inl e) = subst (λ g. cond ((2 == g) && true) code [] ++ (cond ((3 == g) && true) code [] ++ []) ≡ code) (sym e) refl
-code_found g true (inr e) = subst (λ g. cond ((2 == g) && true) code [] ++ (cond ((3 == g) && true) code [] ++ []) ≡ code) (sym e) refl
-code_found g false (inl e) = subst (λ g. cond ((2 == g) && false) code [] ++ (cond ((3 == g) && false) code [] ++ []) ≡ []) (sym e) refl
-code_found g false (inr e) = subst (λ g. cond ((2 == g) && false) code [] ++ (cond ((3 == g) && false) code [] ++ []) ≡ []) (sym e) refl
+code_found : (g : ℕ) (b : Bool) → IsOne g → cond ((4 == g) && b) code [] ++ (cond ((5 == g) && b) code [] ++ []) ≡ cond b code []
+code_found g true (inl e) = subst (λ g. cond ((4 == g) && true) code [] ++ (cond ((5 == g) && true) code [] ++ []) ≡ code) (sym e) refl
+code_found g true (inr e) = subst (λ g. cond ((4 == g) && true) code [] ++ (cond ((5 == g) && true) code [] ++ []) ≡ code) (sym e) refl
+code_found g false (inl e) = subst (λ g. cond ((4 == g) && false) code [] ++ (cond ((5 == g) && false) code [] ++ []) ≡ []) (sym e) refl
+code_found g false (inr e) = subst (λ g. cond ((4 == g) && false) code [] ++ (cond ((5 == g) && false) code [] ++ []) ≡ []) (sym e) refl
 
 -- ---- lists
 
@@ -180,7 +190,7 @@ keep_x_judges = record { judged = λ ss traced n l. judged_from ss ss n (start_c
 -- ---- hooks that don't judge: a verdict that is always false, for a property that every list of steps meets
 
 abbrev never_safe : Hooks
-never_safe = hooks [] (point 2 place.Return [] (safe is.False ∷ []) ∷ [])
+never_safe = hooks [] (point 4 place.Return [] (safe is.False ∷ []) ∷ [])
 
 never_safe_judges : FoldJudges empty_main never_safe (λ ss. Unit {0}) → ⊥
 never_safe_judges h = no ((h.judged (enter ∷ leave_in open_memory ∷ []) empty_main_traced 2 (lit≤ tt)).1 tt).0

@@ -13,7 +13,7 @@ use Rattle.step_meaning.specs.State.{Registers, Here}
 use Rattle.step_meaning.specs.Flow.{step_by, direct, Direct, DirectCall, World, Gives, Done, Over, Stuck, CallGives, Returned, Ended, onward, after_call}
 use Rattle.step_meaning.specs.FaultsHalt.{IsHalt}
 use Rattle.step_meaning.specs.Traced.{SlotTyped}
-use Rattle.step_meaning.proofs.TypedMemory.{Each, Shape, MemoryFits}
+use Rattle.step_meaning.proofs.TypedMemory.{Each, Shape, MemoryFits, HeapFalls}
 use Rattle.step_meaning.proofs.StepsFit.{ActionFits, global_cells, ItemFits}
 
 -- a fault that ends the run is the newest item, a Halt step. No part of a program ends it with an exit
@@ -28,9 +28,9 @@ pub record RegistersFit (types : List CType) (r : Registers) : Type 0 where
   pub declared : map (λ s. s.declared) r ≡ types
   pub fit : Each SlotTyped r
 
--- the program's variables of file scope, open activations of these shapes, and the steps so far
+-- the program's variables of file scope, open activations of these shapes, the steps so far, and the numbers of the heap blocks
 abbrev pub Fits : Core → List Shape → World → Type 0
-Fits q frames w = MemoryFits (global_cells q) frames w.memory × Each (ItemFits q) w.log
+Fits q frames w = MemoryFits (global_cells q) frames w.memory × Each (ItemFits q) w.log × HeapFalls w.memory w.allocated
 
 -- a run that ends here
 abbrev pub EndFits : Core → End → List Item → Type 0
@@ -57,7 +57,7 @@ Always a = Unit {0}
 
 -- the next step
 pub step_fits : (q : Core) (frames : List Shape) (here : Here) (a : Action) (w : World) → Fits q frames w → ActionFits q w.memory.frames a → ItemFits q (step_by here a w.memory)
-step_fits q frames here a w m h = record { globals_declared = m.0.globals_declared; globals_fit = m.0.globals_fit; locals_fit = m.0.locals_fit; action = h }
+step_fits q frames here a w m h = record { globals_declared = m.0.globals_declared; globals_fit = m.0.globals_fit; locals_fit = m.0.locals_fit; heap_fit = m.0.heap_fit; heap_falls = (w.allocated, m.2); action = h }
 
 module _ {q : Core} {frames : List Shape} {registers : List CType} where
   pub keeps_pure : {A : Type 0} {P : A → Type 0} (a : A) → P a → Keeps q frames registers P (direct.pure a)
@@ -100,10 +100,10 @@ module _ {q : Core} {frames : List Shape} {registers : List CType} where
   keeps_registers = record { by = λ w r m k. (k, m, k) }
 
   pub keeps_emit : (here : Here) (a : Action) → ((frames : List Frame) → ActionFits q frames a) → Keeps q frames registers Always (direct.emit here a)
-  keeps_emit here a h = record { by = λ w r m k. (tt, (m.0, (step_fits q frames here a w m (h w.memory.frames), m.1)), k) }
+  keeps_emit here a h = record { by = λ w r m k. (tt, (m.0, (step_fits q frames here a w m (h w.memory.frames), m.1), m.2), k) }
 
   pub keeps_judge : (k : ℕ) (v : VerdictKind) (b : Bool) → Keeps q frames registers Always (direct.judge k v b)
-  keeps_judge k v b = record { by = λ w r m l. (tt, (m.0, (tt, m.1)), l) }
+  keeps_judge k v b = record { by = λ w r m l. (tt, (m.0, (tt, m.1), m.2), l) }
 
   pub keeps_put_ghosts : (x : Memory) → Keeps q frames registers Always (direct.put_ghosts x)
   keeps_put_ghosts x = record { by = λ w r m k. (tt, m, k) }

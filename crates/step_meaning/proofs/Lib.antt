@@ -16,15 +16,18 @@ pub mod InitialValueExamples
 pub mod NormalExamples
 mod Ranges
 mod OperatorRanges
-mod TypedMemory
+pub mod Falling
+pub mod TypedMemory
 mod StepsFit
 mod Kept
 mod TypedAccesses
+mod TypedAllocation
 mod TypedOperators
 mod TypedPlaces
 mod TypedExpressions
 mod TypedStatements
 mod TypedCalls
+pub mod FormedFunctions
 pub mod AnnotationExamples
 pub mod FoldExamples
 pub mod FitExamples

@@ -9,6 +9,7 @@ use Rattle.step_meaning.specs.State.{Here}
 use Rattle.step_meaning.specs.Limits.{is_enter}
 use Rattle.step_meaning.specs.Traced.{is_return, At}
 use Rattle.step_meaning.proofs.Ranges.{false_is_not_true}
+use Rattle.step_meaning.proofs.Falling.{Falls, falls_more}
 use Rattle.step_meaning.proofs.Nesting.{maker, numbers, open_at, open_after, made_after, IsNext, Nest}
 
 -- ---- elements of a list
@@ -78,17 +79,8 @@ abbrev pub Open : List Here → Here → Type 0
 Open [] x = ⊥
 Open (h ∷ hs) x = (x ≡ h) ⊎ Open hs x
 
--- each number is below the one before it, and the first below a bound
-abbrev pub Falls : List ℕ → ℕ → Type 0
-Falls [] n = Unit {0}
-Falls (m ∷ ms) n = (m < n) × Falls ms m
-
 abbrev pub Descends : List Here → ℕ → Type 0
 Descends hs n = Falls (numbers hs) n
-
-pub falls_more : (ms : List ℕ) (m n : ℕ) → m ≤ n → Falls ms m → Falls ms n
-falls_more [] m n l h = tt
-falls_more (k ∷ ms) m n l h = (let i : k < m = h.0 in omega arith, h.1)
 
 open_below : (hs : List Here) (n : ℕ) (x : Here) → Descends hs n → Open hs x → x.activation < n
 open_below [] n x d o = absurd o

@@ -1,6 +1,6 @@
 -- The steps of a run nest as calls do, whatever the program is: no typing is needed for it.
-use Rattle.std.proofs.Common.{◌≡◌, ◌==◌, ℕ, zero, suc, Bool, true, false, cond, List, [], ◌∷◌, map, drop, Option, Some, None, Result, Ok, Err, refl, sym, ap, subst, ◌∙◌}
-use Rattle.std.specs.Prelude.{ℤ, slice_get, option_map, is_some, IsTrue}
+use Rattle.std.proofs.Common.{◌≡◌, ◌==◌, ℕ, zero, suc, Bool, true, false, cond, List, [], ◌∷◌, map, length, drop, Option, Some, None, Result, Ok, Err, refl, sym, ap, subst, ◌∙◌}
+use Rattle.std.specs.Prelude.{ℤ, pos, slice_get, option_map, is_some, IsTrue}
 use Rattle.step_meaning.specs.declared.value.CType.{CType}
 use Rattle.step_meaning.specs.declared.value.CType.TheVariants as type
 use Rattle.step_meaning.specs.declared.value.NameKind.{NameKind}
@@ -18,7 +18,7 @@ use Rattle.step_meaning.specs.declared.expr.Side.TheVariants.{PointerFirst, Poin
 use Rattle.step_meaning.specs.declared.expr.UpdateOp.{UpdateOp}
 use Rattle.step_meaning.specs.declared.expr.UpdateOp.TheVariants.{Integer, Forward, Backward}
 use Rattle.step_meaning.specs.declared.expr.Expr.{Expr, Row_of-Expr, end_of-Expr, more_of-Expr}
-use Rattle.step_meaning.specs.declared.expr.Expr.TheVariants.{Literal, Null, Load, Address, Convert', Unary', Binary', Compare', Move', Difference', Not', Both', Either', Choose', Assign', Update', Invoke', GetChar, PutChar', Discard', Own, Deref', Member', Index'}
+use Rattle.step_meaning.specs.declared.expr.Expr.TheVariants.{Literal, Null, Load, Address, Convert', Unary', Binary', Compare', Move', Difference', Not', Both', Either', Choose', Assign', Update', Invoke', GetChar, PutChar', Malloc', Free', Discard', Own, Deref', Member', Index'}
 use Rattle.step_meaning.specs.declared.expr.Place_.{Place_, end_of-Place_, more_of-Place_}
 use Rattle.step_meaning.specs.declared.predicate.Predicate.{Predicate}
 use Rattle.step_meaning.specs.declared.stmt.VerdictKind.{VerdictKind}
@@ -30,13 +30,15 @@ use Rattle.step_meaning.specs.declared.program.Function.{Function}
 use Rattle.step_meaning.specs.declared.program.Layout.{Layout}
 use Rattle.step_meaning.specs.declared.program.Declared.{Declared}
 use Rattle.step_meaning.specs.Names.{truth, of_truth, integer, moved}
-use Rattle.step_meaning.specs.Memory.{Memory, empty_block, room_at, reached, set_cell, at_block, changed, stored}
+use Rattle.step_meaning.specs.Memory.{Memory, Block, empty_block, room_at, reached, set_cell, changed, stored, with_block, without, begins_block, freed}
 use Rattle.step_meaning.specs.Numbers.{low_bits}
 use Rattle.step_meaning.specs.Steps.{Step, End, Fault, More, Trace, Stop, steps}
 use Rattle.step_meaning.specs.State.{State, Registers, Here, unset_registers, Lvalue, InRegister, At, register_at, set_register, designated}
 use Rattle.step_meaning.specs.Flow.{resting, Resting, RestingCall}
 use Rattle.step_meaning.specs.Accesses as acc
 use Rattle.step_meaning.specs.Accesses.{converted_to}
+use Rattle.step_meaning.specs.Allocation as al
+use Rattle.step_meaning.specs.Allocation.{block_for, block_pointer}
 use Rattle.step_meaning.specs.Expressions as ex
 use Rattle.step_meaning.specs.Statements as sm
 use Rattle.step_meaning.specs.Statements.{Completion, Next, Broken, Continued, Returned}
@@ -48,14 +50,16 @@ use Rattle.step_meaning.specs.ExpressionTypes.{has_body}
 use Rattle.step_meaning.specs.Traced.{IsFunctionOf}
 use Rattle.step_meaning.proofs.Ranges.{false_is_not_true}
 use Rattle.step_meaning.specs.TracedRuns.{cells_declared, cells_of_each}
-use Rattle.step_meaning.proofs.TypedMemory.{drop_map, filled_declared, shape_of, frames_shaped}
+use Rattle.step_meaning.proofs.TypedMemory.{WhereSome, drop_map, filled_declared, shape_of, frames_shaped}
 use Rattle.step_meaning.proofs.Nesting.{local_cells, shapes, frame_shapes, Nest}
 
 -- ---- changes of a memory keep the shapes of its frames
 
-changed_shapes : (memory : Memory) (k : NameKind) (a : ℕ) (c : Cell) (o i : ℕ) → frame_shapes (changed memory k a (at_block (set_cell c o) i)) ≡ frame_shapes memory
+changed_shapes : (memory : Memory) (k : NameKind) (a : ℕ) (c : Cell) (o i : ℕ) → frame_shapes (changed memory k a i (set_cell c o)) ≡ frame_shapes memory
 changed_shapes memory names.Global a c o i = refl
 changed_shapes memory names.Local a c o i = frames_shaped c o i a memory.frames
+changed_shapes memory names.Heap a c o zero = refl
+changed_shapes memory names.Heap a c o (suc i) = refl
 changed_shapes memory names.Register a c o i = refl
 changed_shapes memory names.GhostGlobal a c o i = refl
 changed_shapes memory names.GhostLocal a c o i = refl
@@ -64,6 +68,15 @@ stored_shapes : (memory : Memory) (p : Value) (c : Cell) → frame_shapes (store
 stored_shapes memory (value.Pointer n o) c = changed_shapes memory n.kind n.activation c o n.index
 stored_shapes memory value.Null c = refl
 stored_shapes memory (value.Int z) c = refl
+
+freed_shapes : (memory : Memory) (p : Value) → WhereSome (λ x. frame_shapes x ≡ frame_shapes memory) (freed memory p)
+freed_shapes memory value.Null = refl
+freed_shapes memory (value.Int z) = tt
+freed_shapes memory (value.Pointer n o) = by (begins_block memory n o)
+  where
+    by : (b : Bool) → WhereSome (λ x. frame_shapes x ≡ frame_shapes memory) (cond b (Some (record memory { heap = without n.activation memory.heap })) None)
+    by true = refl
+    by false = tt
 
 -- arguments change no shape
 started_cells : (layouts : List Layout) (ds : List Declared) (vs : List Value) → map cells_declared (with_arguments (map (empty_block layouts) ds) vs) ≡ cells_of_each layouts ds
@@ -215,6 +228,22 @@ module _ (q : Core) (here : Here) (outer : List Here) (is : (f : Function) × Is
   nest_put_char : (v : Value) → Nests (acc.put_char resting here v)
   nest_put_char v = nest_then (nest_emit (act.Output (low_bits 8 (integer v))) tt) (nest_pure _)
 
+  nest_allocate_block : (count : ℕ) (b : Option Block) → Nests (al.allocate_block resting here count b)
+  nest_allocate_block count None = nest_then (nest_emit (act.Malloc count value.Null 0) tt) (nest_pure value.Null)
+  nest_allocate_block count (Some b) = record {
+    by = λ rest h s r m. inner_step (act.Malloc count (block_pointer s.allocated) (length b)) tt s _ m (h (block_pointer s.allocated) (record s { memory = with_block s.allocated b s.memory; allocated = suc s.allocated }) r m);
+  }
+
+  nest_allocate : (ls : List Layout) (t : CType) (v : Value) → Nests (al.allocate resting here ls t v)
+  nest_allocate ls t v = nest_allocate_block (low_bits 64 (integer v)) (block_for ls t (low_bits 64 (integer v)))
+
+  nest_release : (p : Value) → Nests (al.release resting here p)
+  nest_release p = nest_then (nest_emit (act.Free p) tt) (record { by = λ rest h s r m. on (freed s.memory p) rest h s r (freed_shapes s.memory p) m })
+    where
+      on : (x : Option Memory) (rest : Value → State → Registers → Trace) → ((a : Value) (s : State) (r : Registers) → Opens q (here ∷ outer) s → Nest q (here ∷ outer) s.made (steps (rest a s r))) → (s : State) (r : Registers) → WhereSome (λ x. frame_shapes x ≡ frame_shapes s.memory) x → Opens q (here ∷ outer) s → Nest q (here ∷ outer) s.made (steps (al.release_to resting here x rest s r))
+      on None rest h s r e m = (nest_halt fault.BadFree).by rest h s r m
+      on (Some x) rest h s r e m = h (value.Int (pos 0)) (record s { memory = x }) r (e ∙ m)
+
   nest_ghost_code : (ls : List Layout) (g : GhostStmt) → Nests (sm.ghost_code resting ls here g)
   nest_ghost_code ls g = nest_bind nest_get (λ s. nest_bind nest_registers (λ r. nest_put_ghosts _))
 
@@ -223,9 +252,9 @@ module _ (q : Core) (here : Here) (outer : List Here) (is : (f : Function) × Is
 
   -- ---- expressions
 
-  module _ (call : ℕ → List Value → RestingCall) (h : (g : ℕ) (vs : List Value) → CallNests q (here ∷ outer) (call g vs)) where
+  module _ (ls : List Layout) (call : ℕ → List Value → RestingCall) (h : (g : ℕ) (vs : List Value) → CallNests q (here ∷ outer) (call g vs)) where
     mutual
-      nest_eval : (e : Expr) → Nests (ex.eval resting call here e)
+      nest_eval : (e : Expr) → Nests (ex.eval resting ls call here e)
       nest_eval (Literal k z) = nest_pure _
       nest_eval Null = nest_pure _
       nest_eval (Load p t) = nest_bind (nest_place p) (nest_load t)
@@ -245,15 +274,17 @@ module _ (q : Core) (here : Here) (outer : List Here) (is : (f : Function) × Is
       nest_eval (Invoke' f b es) = nest_bind (nest_all es) (λ vs. nest_then (nest_emit (act.Call f) tt) (nest_through (h f vs)))
       nest_eval GetChar = nest_get_char
       nest_eval (PutChar' b (more_of-Expr e end_of-Expr)) = nest_bind (nest_eval e) nest_put_char
+      nest_eval (Malloc' b (more_of-Expr e end_of-Expr) t) = nest_bind (nest_eval e) (nest_allocate ls t)
+      nest_eval (Free' b (more_of-Expr e end_of-Expr)) = nest_bind (nest_eval e) nest_release
       nest_eval (Discard' b (more_of-Expr e end_of-Expr)) = nest_then (nest_eval e) (nest_pure _)
 
-      nest_place : (p : Place_) → Nests (ex.place resting call here p)
+      nest_place : (p : Place_) → Nests (ex.place resting ls call here p)
       nest_place (Own v) = nest_pure _
       nest_place (Deref' b (more_of-Expr e end_of-Expr)) = nest_bind (nest_eval e) (λ a. nest_pure _)
       nest_place (Member' b (more_of-Place_ p end_of-Place_) o) = nest_bind (nest_place p) (λ l. nest_object_after l _)
       nest_place (Index' b (more_of-Place_ p end_of-Place_) c (more_of-Expr e end_of-Expr) size) = nest_bind (nest_place p) (λ l. nest_bind (nest_eval e) (λ i. nest_object_after l _))
 
-      nest_all : {k : _} (e : Row_of-Expr k) → Nests (ex.all resting call here e)
+      nest_all : {k : _} (e : Row_of-Expr k) → Nests (ex.all resting ls call here e)
       nest_all end_of-Expr = nest_pure _
       nest_all (more_of-Expr e more) = nest_bind (nest_eval e) (λ v. nest_bind (nest_all more) (λ vs. nest_pure _))
 
@@ -282,14 +313,14 @@ module _ (q : Core) (here : Here) (outer : List Here) (is : (f : Function) × Is
   nest_turns x (suc k) = nest_then (nest_emit act.Turn tt) (nest_bind x (nest_after_turn (nest_turns x k)))
 
   module _ (ls : List Layout) (call : ℕ → List Value → RestingCall) (h : (g : ℕ) (vs : List Value) → CallNests q (here ∷ outer) (call g vs)) (k : ℕ) where
-    nest_value : (e : Expr) → Nests (ex.eval resting call here e)
-    nest_value = nest_eval call h
+    nest_value : (e : Expr) → Nests (ex.eval resting ls call here e)
+    nest_value = nest_eval ls call h
 
-    nest_when : (o : Option Expr) {d : Resting Completion} → Nests d → Nests (sm.when_test resting (option_map (ex.eval resting call here) o) d)
+    nest_when : (o : Option Expr) {d : Resting Completion} → Nests d → Nests (sm.when_test resting (option_map (ex.eval resting ls call here) o) d)
     nest_when None a = a
     nest_when (Some e) a = nest_bind (nest_value e) (λ v. nest_cond (truth v) a (nest_pure Broken))
 
-    nest_step_of : (o : Option Expr) → Nests (sm.loop_step resting (option_map (ex.eval resting call here) o))
+    nest_step_of : (o : Option Expr) → Nests (sm.loop_step resting (option_map (ex.eval resting ls call here) o))
     nest_step_of None = nest_pure Next
     nest_step_of (Some e) = nest_bind (nest_value e) (λ v. nest_pure Next)
 

@@ -19,7 +19,7 @@ use Rattle.step_meaning.specs.Sizes.{nodes, depth, nesting}
 use Rattle.step_meaning.specs.Normal.{is_normal, ends_with_return, are_normal_functions}
 use Rattle.step_meaning.specs.Printable.{IsPrintable, is_small, is_small_statement}
 use Rattle.step_meaning.proofs.Examples.{int, lit, global, local, load, deref, index, assign, binary, return, zero_cell}
-use Rattle.step_meaning.proofs.WellFormedExamples.{named, getchar, putchar, adding}
+use Rattle.step_meaning.proofs.WellFormedExamples.{named, getchar, putchar, malloc, free, adding}
 
 -- ---- statements, where r and s are registers
 
@@ -73,7 +73,7 @@ write_element = refl
 
 -- f(r); r = f(1); x = f(1); f(x); f(f(1)); r = getchar(); putchar(r); r;
 abbrev call : Expr → Expr
-call a = e.Invoke' 2 (tt ∷ []) (more_of-Expr a end_of-Expr)
+call a = e.Invoke' 4 (tt ∷ []) (more_of-Expr a end_of-Expr)
 
 call_alone : is_normal (s.Eval (call r)) ≡ true
 call_alone = refl
@@ -177,7 +177,7 @@ main = record {
 }
 
 abbrev counting : Core
-counting = record adding { layouts = []; globals = named (codes "x") int ∷ []; initial = zero_cell ∷ []; functions = getchar ∷ putchar ∷ main ∷ []; start = 2 }
+counting = record adding { layouts = []; globals = named (codes "x") int ∷ []; initial = zero_cell ∷ []; functions = getchar ∷ putchar ∷ malloc ∷ free ∷ main ∷ []; start = 4 }
 
 getchar_fits : IsWellFormedFunction counting getchar
 getchar_fits = record { result = refl; parameters_first = refl; parameters = refl; locals = refl; registers = refl; ghosts = refl; body = tt; names = tt }
@@ -197,6 +197,8 @@ counting_well_formed = record {
   ghosts = refl;
   getchar = refl;
   putchar = refl;
+  malloc = refl;
+  free = refl;
   main = refl;
   functions = (getchar_fits, (putchar_fits, (main_fits, tt)));
   file_names = refl;
@@ -213,9 +215,9 @@ counting_printable = record { well_formed = counting_well_formed; normal = refl;
 no_return : ends_with_return (takes (register 0) (lit 1) ∷ []) ≡ false
 no_return = refl
 
-early_return : are_normal_functions counting 2 (record main { body = Some (return r ∷ s.Empty ∷ []) } ∷ []) ≡ false
+early_return : are_normal_functions counting 4 (record main { body = Some (return r ∷ s.Empty ∷ []) } ∷ []) ≡ false
 early_return = refl
 
 -- a function with a value, other than `main`, may end without one
-falling_off : are_normal_functions counting 3 (record main { body = Some (s.Empty ∷ []) } ∷ []) ≡ true
+falling_off : are_normal_functions counting 5 (record main { body = Some (s.Empty ∷ []) } ∷ []) ≡ true
 falling_off = refl

@@ -1,6 +1,6 @@
 -- Two flows whose operations are related give related meanings: one line for each form of the meaning.
-use Rattle.std.proofs.Common.{ℕ, zero, suc, Bool, true, false, cond, List, [], ◌∷◌, Option, Some, None, Result, Ok, Err}
-use Rattle.std.specs.Prelude.{ℤ, option_map}
+use Rattle.std.proofs.Common.{◌≡◌, ℕ, zero, suc, Bool, true, false, cond, List, [], ◌∷◌, Option, Some, None, Result, Ok, Err}
+use Rattle.std.specs.Prelude.{ℤ, slice_get, option_map}
 use Rattle.step_meaning.specs.declared.value.CType.{CType}
 use Rattle.step_meaning.specs.declared.value.CType.TheVariants as type
 use Rattle.step_meaning.specs.declared.value.Value.{Value}
@@ -16,7 +16,7 @@ use Rattle.step_meaning.specs.declared.expr.Side.TheVariants.{PointerFirst, Poin
 use Rattle.step_meaning.specs.declared.expr.UpdateOp.{UpdateOp}
 use Rattle.step_meaning.specs.declared.expr.UpdateOp.TheVariants.{Integer, Forward, Backward}
 use Rattle.step_meaning.specs.declared.expr.Expr.{Expr, Row_of-Expr, end_of-Expr, more_of-Expr}
-use Rattle.step_meaning.specs.declared.expr.Expr.TheVariants.{Literal, Null, Load, Address, Convert', Unary', Binary', Compare', Move', Difference', Not', Both', Either', Choose', Assign', Update', Invoke', GetChar, PutChar', Discard', Own, Deref', Member', Index'}
+use Rattle.step_meaning.specs.declared.expr.Expr.TheVariants.{Literal, Null, Load, Address, Convert', Unary', Binary', Compare', Move', Difference', Not', Both', Either', Choose', Assign', Update', Invoke', GetChar, PutChar', Malloc', Free', Discard', Own, Deref', Member', Index'}
 use Rattle.step_meaning.specs.declared.expr.Place_.{Place_, end_of-Place_, more_of-Place_}
 use Rattle.step_meaning.specs.declared.predicate.Predicate.{Predicate}
 use Rattle.step_meaning.specs.declared.stmt.VerdictKind.{VerdictKind}
@@ -26,11 +26,14 @@ use Rattle.step_meaning.specs.declared.stmt.Stmt.TheVariants as st
 use Rattle.step_meaning.specs.declared.program.Core.{Core}
 use Rattle.step_meaning.specs.declared.program.Function.{Function}
 use Rattle.step_meaning.specs.declared.program.Layout.{Layout}
-use Rattle.step_meaning.specs.Names.{truth, of_truth, moved}
-use Rattle.step_meaning.specs.Memory.{Memory, room_at, reached, stored}
+use Rattle.step_meaning.specs.Numbers.{low_bits}
+use Rattle.step_meaning.specs.Names.{truth, of_truth, integer, moved}
+use Rattle.step_meaning.specs.Memory.{Memory, Block, room_at, reached, stored, freed}
 use Rattle.step_meaning.specs.Steps.{End, More, Fault}
 use Rattle.step_meaning.specs.State.{Here, Registers, Lvalue, InRegister, At, register_at, set_register, designated}
 use Rattle.step_meaning.specs.Accesses as acc
+use Rattle.step_meaning.specs.Allocation as al
+use Rattle.step_meaning.specs.Allocation.{block_for}
 use Rattle.step_meaning.specs.Expressions as ex
 use Rattle.step_meaning.specs.Statements as sm
 use Rattle.step_meaning.specs.Statements.{Completion, Next, Broken, Continued, Returned}
@@ -52,6 +55,7 @@ pub record RelatedFlows (F F' : Flow) : Type 1 where
   pub put_ghosts : (m : Memory) → AreRelated (F.put_ghosts m) (F'.put_ghosts m)
   pub put_input : (bs : List ℕ) → AreRelated (F.put_input bs) (F'.put_input bs)
   pub put_made : (n : ℕ) → AreRelated (F.put_made n) (F'.put_made n)
+  pub put_allocated : (n : ℕ) → AreRelated (F.put_allocated n) (F'.put_allocated n)
   pub registers : AreRelated F.registers F'.registers
   pub put_registers : (r : Registers) → AreRelated (F.put_registers r) (F'.put_registers r)
   pub emit : (here : Here) (a : Action) → AreRelated (F.emit here a) (F'.emit here a)
@@ -133,6 +137,20 @@ module _ (F F' : Flow) (rel : RelatedFlows F F') where
     related_put_char : (v : Value) → rel.AreRelated (acc.put_char F here v) (acc.put_char F' here v)
     related_put_char v = related_then (rel.emit here _) (rel.pure _)
 
+    related_allocate_block : (count : ℕ) (b : Option Block) → rel.AreRelated (al.allocate_block F here count b) (al.allocate_block F' here count b)
+    related_allocate_block count None = related_then (rel.emit here _) (rel.pure value.Null)
+    related_allocate_block count (Some b) = rel.bind rel.get (λ s. related_then (rel.emit here _) (related_then (rel.put_memory _) (related_then (rel.put_allocated _) (rel.pure _))))
+
+    related_allocate : (ls : List Layout) (t : CType) (v : Value) → rel.AreRelated (al.allocate F here ls t v) (al.allocate F' here ls t v)
+    related_allocate ls t v = related_allocate_block (low_bits 64 (integer v)) (block_for ls t (low_bits 64 (integer v)))
+
+    related_release_to : (m : Option Memory) → rel.AreRelated (al.release_to F here m) (al.release_to F' here m)
+    related_release_to None = rel.halt here fault.BadFree
+    related_release_to (Some m) = related_then (rel.put_memory m) (rel.pure _)
+
+    related_release : (p : Value) → rel.AreRelated (al.release F here p) (al.release F' here p)
+    related_release p = related_then (rel.emit here (act.Free p)) (rel.bind rel.get (λ s. related_release_to (freed s.memory p)))
+
     related_ghost_code : (ls : List Layout) (g : GhostStmt) → rel.AreRelated (sm.ghost_code F ls here g) (sm.ghost_code F' ls here g)
     related_ghost_code ls g = rel.bind rel.get (λ s. rel.bind rel.registers (λ r. rel.put_ghosts _))
 
@@ -141,9 +159,9 @@ module _ (F F' : Flow) (rel : RelatedFlows F F') where
 
   -- ---- expressions
 
-  module _ (here : Here) (call : ℕ → List Value → F.Plain) (call' : ℕ → List Value → F'.Plain) (h : (g : ℕ) (vs : List Value) → rel.AreRelatedCalls (call g vs) (call' g vs)) where
+  module _ (ls : List Layout) (here : Here) (call : ℕ → List Value → F.Plain) (call' : ℕ → List Value → F'.Plain) (h : (g : ℕ) (vs : List Value) → rel.AreRelatedCalls (call g vs) (call' g vs)) where
     mutual
-      related_eval : (e : Expr) → rel.AreRelated (ex.eval F call here e) (ex.eval F' call' here e)
+      related_eval : (e : Expr) → rel.AreRelated (ex.eval F ls call here e) (ex.eval F' ls call' here e)
       related_eval (Literal k z) = rel.pure _
       related_eval Null = rel.pure _
       related_eval (Load p t) = rel.bind (related_place p) (related_load here t)
@@ -163,15 +181,17 @@ module _ (F F' : Flow) (rel : RelatedFlows F F') where
       related_eval (Invoke' f b es) = rel.bind (related_all es) (λ vs. related_then (rel.emit here _) (rel.through (h f vs)))
       related_eval GetChar = related_get_char here
       related_eval (PutChar' b (more_of-Expr e end_of-Expr)) = rel.bind (related_eval e) (related_put_char here)
+      related_eval (Malloc' b (more_of-Expr e end_of-Expr) t) = rel.bind (related_eval e) (related_allocate here ls t)
+      related_eval (Free' b (more_of-Expr e end_of-Expr)) = rel.bind (related_eval e) (related_release here)
       related_eval (Discard' b (more_of-Expr e end_of-Expr)) = related_then (related_eval e) (rel.pure _)
 
-      related_place : (p : Place_) → rel.AreRelated (ex.place F call here p) (ex.place F' call' here p)
+      related_place : (p : Place_) → rel.AreRelated (ex.place F ls call here p) (ex.place F' ls call' here p)
       related_place (Own v) = rel.pure _
       related_place (Deref' b (more_of-Expr e end_of-Expr)) = rel.bind (related_eval e) (λ a. rel.pure _)
       related_place (Member' b (more_of-Place_ p end_of-Place_) o) = rel.bind (related_place p) (λ l. related_object_after here l _)
       related_place (Index' b (more_of-Place_ p end_of-Place_) c (more_of-Expr e end_of-Expr) size) = rel.bind (related_place p) (λ l. rel.bind (related_eval e) (λ i. related_object_after here l _))
 
-      related_all : {k : _} (e : Row_of-Expr k) → rel.AreRelated (ex.all F call here e) (ex.all F' call' here e)
+      related_all : {k : _} (e : Row_of-Expr k) → rel.AreRelated (ex.all F ls call here e) (ex.all F' ls call' here e)
       related_all end_of-Expr = rel.pure _
       related_all (more_of-Expr e more) = rel.bind (related_eval e) (λ v. rel.bind (related_all more) (λ vs. rel.pure _))
 
@@ -201,14 +221,14 @@ module _ (F F' : Flow) (rel : RelatedFlows F F') where
   related_turns here x (suc k) = related_then (rel.emit here act.Turn) (rel.bind x (related_after_turn (related_turns here x k)))
 
   module _ (ls : List Layout) (here : Here) (call : ℕ → List Value → F.Plain) (call' : ℕ → List Value → F'.Plain) (h : (g : ℕ) (vs : List Value) → rel.AreRelatedCalls (call g vs) (call' g vs)) (k : ℕ) where
-    related_value : (e : Expr) → rel.AreRelated (ex.eval F call here e) (ex.eval F' call' here e)
-    related_value = related_eval here call call' h
+    related_value : (e : Expr) → rel.AreRelated (ex.eval F ls call here e) (ex.eval F' ls call' here e)
+    related_value = related_eval ls here call call' h
 
-    related_when : (o : Option Expr) {d : F.Does Completion} {d' : F'.Does Completion} → rel.AreRelated d d' → rel.AreRelated (sm.when_test F (option_map (ex.eval F call here) o) d) (sm.when_test F' (option_map (ex.eval F' call' here) o) d')
+    related_when : (o : Option Expr) {d : F.Does Completion} {d' : F'.Does Completion} → rel.AreRelated d d' → rel.AreRelated (sm.when_test F (option_map (ex.eval F ls call here) o) d) (sm.when_test F' (option_map (ex.eval F' ls call' here) o) d')
     related_when None a = a
     related_when (Some e) a = rel.bind (related_value e) (λ v. related_cond (truth v) a (rel.pure Broken))
 
-    related_step_of : (o : Option Expr) → rel.AreRelated (sm.loop_step F (option_map (ex.eval F call here) o)) (sm.loop_step F' (option_map (ex.eval F' call' here) o))
+    related_step_of : (o : Option Expr) → rel.AreRelated (sm.loop_step F (option_map (ex.eval F ls call here) o)) (sm.loop_step F' (option_map (ex.eval F' ls call' here) o))
     related_step_of None = rel.pure Next
     related_step_of (Some e) = rel.bind (related_value e) (λ v. rel.pure Next)
 

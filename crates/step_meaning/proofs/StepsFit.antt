@@ -15,7 +15,7 @@ use Rattle.step_meaning.specs.Steps.{Step, Item, Made, Judged}
 use Rattle.step_meaning.specs.ExpressionTypes.{parameter_types}
 use Rattle.step_meaning.specs.Traced.{is_program_kind, contents}
 use Rattle.step_meaning.specs.TracedRuns.{cells_declared, cells_of_each}
-use Rattle.step_meaning.proofs.TypedMemory.{Each, is_empty, InCell, BlockFits, FrameFits}
+use Rattle.step_meaning.proofs.TypedMemory.{Each, is_empty, InCell, BlockFits, FrameFits, HeapFits, HeapFalls}
 
 -- ---- values
 
@@ -68,6 +68,8 @@ pub record LeaveFits (q : Core) (g : ℕ) (v : Option Value) : Type 0 where
 abbrev pub ActionFits : Core → List Frame → Action → Type 0
 ActionFits q frames (act.Read p) = IsAddress p
 ActionFits q frames (act.Write p v) = IsAddress p
+ActionFits q frames (act.Malloc n p k) = IsAddress p
+ActionFits q frames (act.Free p) = IsAddress p
 ActionFits q frames (act.Enter g vs) = EnterFits q frames g vs
 ActionFits q frames (act.Return g v) = LeaveFits q g v
 ActionFits q frames _ = Unit {0}
@@ -82,6 +84,8 @@ pub record StepFits (q : Core) (s : Step) : Type 0 where
   pub globals_declared : map cells_declared s.memory.globals ≡ global_cells q
   pub globals_fit : Each BlockFits s.memory.globals
   pub locals_fit : Each FrameFits s.memory.frames
+  pub heap_fit : Each HeapFits s.memory.heap
+  pub heap_falls : (n : ℕ) × HeapFalls s.memory n
   pub action : ActionFits q s.memory.frames s.action
 
 abbrev pub ItemFits : Core → Item → Type 0

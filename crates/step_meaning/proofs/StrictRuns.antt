@@ -54,6 +54,7 @@ strictly =
       put_ghosts = λ m. record { by = λ rest w r k. refl };
       put_input = λ bs. record { by = λ rest w r k. refl };
       put_made = λ n. record { by = λ rest w r k. refl };
+      put_allocated = λ n. record { by = λ rest w r k. refl };
       registers = record { by = λ rest w r k. refl };
       put_registers = λ q. record { by = λ rest w r k. refl };
       emit = λ here a. record { by = λ rest w r k. refl };

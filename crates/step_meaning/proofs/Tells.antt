@@ -63,6 +63,9 @@ tells_put_input x = record { by = λ rest w r. refl }
 pub tells_put_made : (x : ℕ) → Tells (resting.put_made x) (direct.put_made x)
 tells_put_made x = record { by = λ rest w r. refl }
 
+pub tells_put_allocated : (x : ℕ) → Tells (resting.put_allocated x) (direct.put_allocated x)
+tells_put_allocated x = record { by = λ rest w r. refl }
+
 pub tells_registers : Tells resting.registers direct.registers
 tells_registers = record { by = λ rest w r. refl }
 

@@ -24,23 +24,23 @@ abbrev pub open_frame : Frame
 open_frame = record { activation = 0; locals = [] }
 
 abbrev pub open_memory : Memory
-open_memory = record { globals = []; frames = open_frame ∷ [] }
+open_memory = record { globals = []; frames = open_frame ∷ []; heap = [] }
 
 -- no activation is open
 abbrev closed_memory : Memory
-closed_memory = record { globals = []; frames = [] }
+closed_memory = record { globals = []; frames = []; heap = [] }
 
 abbrev pub enter_in : Memory → Step
-enter_in memory = record { action = act.Enter 2 []; function = 2; activation = 0; memory = memory }
+enter_in memory = record { action = act.Enter 4 []; function = 4; activation = 0; memory = memory }
 
 abbrev pub leave_in : Memory → Step
-leave_in memory = record { action = act.Return 2 (Some (value.Int (pos 0))); function = 2; activation = 0; memory = memory }
+leave_in memory = record { action = act.Return 4 (Some (value.Int (pos 0))); function = 4; activation = 0; memory = memory }
 
 abbrev pub enter : Step
 enter = enter_in open_memory
 
 abbrev turn : Step
-turn = record { action = act.Turn; function = 2; activation = 0; memory = open_memory }
+turn = record { action = act.Turn; function = 4; activation = 0; memory = open_memory }
 
 abbrev main : Function
 main = function int [] (return (lit 0) ∷ [])
@@ -65,14 +65,14 @@ no_blocks : BlocksTyped []
 no_blocks k d lt = absurd (omega arith)
 
 open_fits : IsProgramMemory empty_main open_memory
-open_fits = record { globals = refl; globals_typed = no_blocks; locals_typed = locals; one_frame_each = λ i j d lt lt'. absurd (omega arith) }
+open_fits = record { globals = refl; globals_typed = no_blocks; locals_typed = locals; heap_typed = λ k d lt. absurd (omega arith); one_frame_each = λ i j d lt lt'. absurd (omega arith); one_block_each = λ i j d lt lt'. absurd (omega arith) }
   where
     locals : All (λ f. BlocksTyped f.locals) (open_frame ∷ [])
     locals zero d lt = no_blocks
     locals (suc k) d lt = absurd (omega arith)
 
 closed_fits : IsProgramMemory empty_main closed_memory
-closed_fits = record { globals = refl; globals_typed = no_blocks; locals_typed = λ k d lt. absurd (omega arith); one_frame_each = λ i j d lt lt'. absurd (omega arith) }
+closed_fits = record { globals = refl; globals_typed = no_blocks; locals_typed = λ k d lt. absurd (omega arith); heap_typed = λ k d lt. absurd (omega arith); one_frame_each = λ i j d lt lt'. absurd (omega arith); one_block_each = λ i j d lt lt'. absurd (omega arith) }
 
 module _ (first memory : Memory) (first_fits : IsProgramMemory empty_main first) (fits : IsProgramMemory empty_main memory) where
   abbrev enters : Step
@@ -97,8 +97,8 @@ module _ (first memory : Memory) (first_fits : IsProgramMemory empty_main first)
   enter_and_leave = record {
     each = at_either (λ i s. IsStepOf empty_main s) enter_fits leave_fits;
     first = λ s e. at_either (λ i s. s.activation ≡ 0) refl refl 0 s e;
-    main_alone = λ i s e. at_either (λ i s. ((s.activation ≡ 0) → (s.function ≡ 2)) × ((s.function ≡ 2) → (s.activation ≡ 0))) ((λ h. refl), (λ h. refl)) ((λ h. refl), (λ h. refl)) i s e;
-    one_function = λ i j s t a b h. at_either (λ i s. s.function ≡ 2) refl refl i s a ∙ sym (at_either (λ j t. t.function ≡ 2) refl refl j t b);
+    main_alone = λ i s e. at_either (λ i s. ((s.activation ≡ 0) → (s.function ≡ 4)) × ((s.function ≡ 4) → (s.activation ≡ 0))) ((λ h. refl), (λ h. refl)) ((λ h. refl), (λ h. refl)) i s e;
+    one_function = λ i j s t a b h. at_either (λ i s. s.function ≡ 4) refl refl i s a ∙ sym (at_either (λ j t. t.function ≡ 4) refl refl j t b);
     entered = λ i s e. (0, enters, omega arith, refl, sym (at_either (λ i s. s.activation ≡ 0) refl refl i s e), refl);
     enters_first = λ i j s t a b h. at_either (λ i s. IsTrue (is_enter s.action) → (i ≤ j) × (IsTrue (is_enter t.action) → i ≡ j))
         (λ e. (omega arith, λ f. at_either (λ j t. IsTrue (is_enter t.action) → 0 ≡ j) (λ f. refl) (λ f. absurd (true_is_not_false f)) j t b f))
@@ -144,23 +144,23 @@ abbrev ignore : Function
 ignore = record (function int (declared int ∷ []) (return (lit 0) ∷ [])) { params = 1 }
 
 abbrev with_parameter : Core
-with_parameter = program [] [] (ignore ∷ main ∷ []) 3
+with_parameter = program [] [] (ignore ∷ main ∷ []) 5
 
 -- the frame of an activation of `ignore` with this cell in its parameter
 abbrev frame_with : Cell → Frame
 frame_with c = record { activation = 1; locals = (record { declared = int; cell = c } ∷ []) ∷ [] }
 
 abbrev open_with : Cell → Memory
-open_with c = record { globals = []; frames = frame_with c ∷ open_frame ∷ [] }
+open_with c = record { globals = []; frames = frame_with c ∷ open_frame ∷ []; heap = [] }
 
 abbrev seven : Cell
 seven = Holds (value.Int (pos 7))
 
 abbrev main_enters : Step
-main_enters = record { action = act.Enter 3 []; function = 3; activation = 0; memory = open_memory }
+main_enters = record { action = act.Enter 5 []; function = 5; activation = 0; memory = open_memory }
 
 abbrev ignore_enters : Memory → Step
-ignore_enters memory = record { action = act.Enter 2 (value.Int (pos 7) ∷ []); function = 2; activation = 1; memory = memory }
+ignore_enters memory = record { action = act.Enter 4 (value.Int (pos 7) ∷ []); function = 4; activation = 1; memory = memory }
 
 abbrev two_enters : Memory → List Step
 two_enters memory = main_enters ∷ ignore_enters memory ∷ []
@@ -170,8 +170,8 @@ argument_held : IsTraced with_parameter (two_enters (open_with seven))
 argument_held = record {
   each = at_both (λ i s. IsStepOf with_parameter s) main_fits ignore_fits;
   first = λ s e. at_both (λ i s. s.activation ≡ i) refl refl 0 s e;
-  main_alone = λ i s e. at_both (λ i s. ((s.activation ≡ 0) → (s.function ≡ 3)) × ((s.function ≡ 3) → (s.activation ≡ 0))) ((λ h. refl), (λ h. refl)) ((λ h. absurd (omega arith)), (λ h. absurd (omega arith))) i s e;
-  one_function = λ i j s t a b h. let m : s.function + s.activation ≡ 3 = at_both (λ i s. s.function + s.activation ≡ 3) refl refl i s a in let n : t.function + t.activation ≡ 3 = at_both (λ i s. s.function + s.activation ≡ 3) refl refl j t b in omega arith;
+  main_alone = λ i s e. at_both (λ i s. ((s.activation ≡ 0) → (s.function ≡ 5)) × ((s.function ≡ 5) → (s.activation ≡ 0))) ((λ h. refl), (λ h. refl)) ((λ h. absurd (omega arith)), (λ h. absurd (omega arith))) i s e;
+  one_function = λ i j s t a b h. let m : s.function + s.activation ≡ 5 = at_both (λ i s. s.function + s.activation ≡ 5) refl refl i s a in let n : t.function + t.activation ≡ 5 = at_both (λ i s. s.function + s.activation ≡ 5) refl refl j t b in omega arith;
   entered = λ i s e. (i, s, omega arith, e, refl, at_both (λ i s. IsTrue (is_enter s.action)) refl refl i s e);
   enters_first = λ i j s t a b h e. let m : s.activation ≡ i = at_both (λ i s. s.activation ≡ i) refl refl i s a in let n : t.activation ≡ j = at_both (λ i s. s.activation ≡ i) refl refl j t b in (omega arith, λ f. omega arith);
   returns_last = λ i j s t a b h e. absurd (at_both (λ i s. IsTrue (is_return s.action) → ⊥) true_is_not_false true_is_not_false i s a e);
@@ -184,7 +184,7 @@ argument_held = record {
     at_both P a b (suc (suc i)) s e = absurd (none_is_not_some s e)
 
     main_fits : IsStepOf with_parameter main_enters
-    main_fits = record { memory = record { globals = refl; globals_typed = no_blocks; locals_typed = open_fits.locals_typed; one_frame_each = open_fits.one_frame_each }; own_function = refl; pointers = λ k d lt. absurd (omega arith); accesses = tt; executed = (main, (refl, refl), tt); parameters_hold = λ i v e. absurd (none_is_not_some v e) }
+    main_fits = record { memory = record { globals = refl; globals_typed = no_blocks; locals_typed = open_fits.locals_typed; heap_typed = open_fits.heap_typed; one_frame_each = open_fits.one_frame_each; one_block_each = open_fits.one_block_each }; own_function = refl; pointers = λ k d lt. absurd (omega arith); accesses = tt; executed = (main, (refl, refl), tt); parameters_hold = λ i v e. absurd (none_is_not_some v e) }
 
     typed : All (λ f. BlocksTyped f.locals) (frame_with seven ∷ open_frame ∷ [])
     typed = All-cons (λ f. BlocksTyped f.locals) (frame_with seven) (open_frame ∷ []) (All-cons (All SlotTyped) (record { declared = int; cell = seven } ∷ []) [] (All-from_recursion SlotTyped (record { declared = int; cell = seven } ∷ []) ((refl, tt), tt)) (All-nil (All SlotTyped))) open_fits.locals_typed
@@ -192,12 +192,12 @@ argument_held = record {
     apart : AllPairs (λ f g. f.activation ≢ g.activation) (frame_with seven ∷ open_frame ∷ [])
     apart = AllPairs-cons (λ f g. f.activation ≢ g.activation) (frame_with seven) (open_frame ∷ []) (All-cons (λ g. 1 ≢ g.activation) open_frame [] (omega arith) (All-nil (λ (g : Frame). 1 ≢ g.activation))) open_fits.one_frame_each
 
-    held : ParametersHold (act.Enter 2 (value.Int (pos 7) ∷ [])) 1 (open_with seven)
+    held : ParametersHold (act.Enter 4 (value.Int (pos 7) ∷ [])) 1 (open_with seven)
     held zero v e = ap (λ v. Some (Holds v ∷ [])) (same_some (value.Int (pos 7)) v e)
     held (suc i) v e = absurd (none_is_not_some v e)
 
     ignore_fits : IsStepOf with_parameter (ignore_enters (open_with seven))
-    ignore_fits = record { memory = record { globals = refl; globals_typed = no_blocks; locals_typed = typed; one_frame_each = apart }; own_function = refl; pointers = All-cons PointsIntoProgram (value.Int (pos 7)) [] tt (All-nil PointsIntoProgram); accesses = tt; executed = (ignore, (refl, refl), (refl, tt)); parameters_hold = held }
+    ignore_fits = record { memory = record { globals = refl; globals_typed = no_blocks; locals_typed = typed; heap_typed = open_fits.heap_typed; one_frame_each = apart; one_block_each = open_fits.one_block_each }; own_function = refl; pointers = All-cons PointsIntoProgram (value.Int (pos 7)) [] tt (All-nil PointsIntoProgram); accesses = tt; executed = (ignore, (refl, refl), (refl, tt)); parameters_hold = held }
 
 -- what is asked of the parameter of `ignore`
 parameter_of : (memory : Memory) → IsTraced with_parameter (two_enters memory) → option_map contents (block memory (record { kind = names.Local; activation = 1; index = 0 })) ≡ Some (seven ∷ [])
@@ -227,8 +227,8 @@ frame_cells memory r e has =
     ∙ (has.own_frame.4 ∙ ap (λ (f : Function). cells_of_each [] f.locals) (sym (same_some ignore has.own_frame.0 has.own_frame.2)))
 
 -- a frame without the parameter
-parameter_missing : HasVariables with_parameter (ignore_enters (record { globals = []; frames = record { activation = 1; locals = [] } ∷ [] })) → ⊥
-parameter_missing has = no_cells (frame_cells (record { globals = []; frames = record { activation = 1; locals = [] } ∷ [] }) (record { activation = 1; locals = [] }) refl has)
+parameter_missing : HasVariables with_parameter (ignore_enters (record { globals = []; frames = record { activation = 1; locals = [] } ∷ []; heap = [] })) → ⊥
+parameter_missing has = no_cells (frame_cells (record { globals = []; frames = record { activation = 1; locals = [] } ∷ []; heap = [] }) (record { activation = 1; locals = [] }) refl has)
   where
     no_cells : [] ≡ ((int ∷ []) ∷ []) → ⊥
     no_cells e = cc
@@ -237,8 +237,8 @@ abbrev frame_of_pointer : Frame
 frame_of_pointer = record { activation = 1; locals = (record { declared = pointer_to int; cell = Nothing } ∷ []) ∷ [] }
 
 -- a parameter of another type
-parameter_retyped : HasVariables with_parameter (ignore_enters (record { globals = []; frames = frame_of_pointer ∷ [] })) → ⊥
-parameter_retyped has = other_type (frame_cells (record { globals = []; frames = frame_of_pointer ∷ [] }) frame_of_pointer refl has)
+parameter_retyped : HasVariables with_parameter (ignore_enters (record { globals = []; frames = frame_of_pointer ∷ []; heap = [] })) → ⊥
+parameter_retyped has = other_type (frame_cells (record { globals = []; frames = frame_of_pointer ∷ []; heap = [] }) frame_of_pointer refl has)
   where
     other_type : ((pointer_to int ∷ []) ∷ []) ≡ ((int ∷ []) ∷ []) → ⊥
     other_type e = true_is_not_false (ap first_is_int e)

@@ -14,7 +14,7 @@ use Rattle.step_meaning.specs.declared.value.Action.{Action}
 use Rattle.step_meaning.specs.declared.value.Action.TheVariants as act
 use Rattle.step_meaning.specs.declared.program.Core.{Core}
 use Rattle.step_meaning.specs.declared.program.Function.{Function}
-use Rattle.step_meaning.specs.Memory.{Memory, Frame, Block, empty_block, frame_of}
+use Rattle.step_meaning.specs.Memory.{Memory, Frame, HeapBlock, Block, empty_block, frame_of}
 use Rattle.step_meaning.specs.Steps.{Step, steps}
 use Rattle.step_meaning.specs.State.{Here}
 use Rattle.step_meaning.specs.Runs.{run}
@@ -24,12 +24,13 @@ use Rattle.step_meaning.specs.Traced.{PointsIntoProgram, IsPointer, HaveTypes, S
 use Rattle.step_meaning.specs.TracedRuns.{cells_declared, cells_of_each, EachHasVariables, WellFormedTraced}
 use Rattle.step_meaning.proofs.Ranges.{false_is_not_true}
 use Rattle.step_meaning.proofs.ValuesInside.{none_is}
-use Rattle.step_meaning.proofs.TypedMemory.{Each, get_fits, is_empty, is_empty_map, drop_map, number_same, BlockFits, Shape, shape_of, FrameFits}
+use Rattle.step_meaning.proofs.TypedMemory.{Each, get_fits, is_empty, is_empty_map, drop_map, number_same, BlockFits, Shape, shape_of, FrameFits, HeapFits, heap_numbers}
 use Rattle.step_meaning.proofs.StepsFit.{IsAddress, InCells, HoldArguments, InnermostHolds, ReturnFits, ActionFits, StepFits}
 use Rattle.step_meaning.proofs.TypedRuns.{some_fits, run_steps_fit}
+use Rattle.step_meaning.proofs.Falling.{Falls, falls_more}
 use Rattle.step_meaning.proofs.Nesting.{maker, numbers, frame_numbers, local_cells, shape_for, shapes, frame_shapes, numbers_of_shapes, open_at, IsNext, Nest}
 use Rattle.step_meaning.proofs.NestingRuns.{run_nests}
-use Rattle.step_meaning.proofs.NestingLists.{same_some, Falls, falls_more, Descends, by_sort, descends_in, descends_out, nested_known, first_number}
+use Rattle.step_meaning.proofs.NestingLists.{same_some, Descends, by_sort, descends_in, descends_out, nested_known, first_number}
 
 -- ---- memories
 
@@ -49,6 +50,18 @@ others f (g ∷ fs) n l h = All-cons (λ g. f.activation ≢ g.activation) g fs 
 one_frame_each : (fs : List Frame) (n : ℕ) → Falls (map (λ f. f.activation) fs) n → AllPairs (λ f g. f.activation ≢ g.activation) fs
 one_frame_each [] n h = λ i j d l m. absurd (omega arith)
 one_frame_each (f ∷ fs) n h = AllPairs-cons (λ f g. f.activation ≢ g.activation) f fs (others f fs f.activation (omega arith) h.1) (one_frame_each fs f.activation h.1)
+
+heap_typed : (bs : List HeapBlock) → Each HeapFits bs → All (λ b. All SlotTyped b.cells) bs
+heap_typed [] h = All-nil (λ b. All SlotTyped b.cells)
+heap_typed (b ∷ bs) h = All-cons (λ b. All SlotTyped b.cells) b bs (All-from_recursion SlotTyped b.cells h.0.0) (heap_typed bs h.1)
+
+other_blocks : (b : HeapBlock) (bs : List HeapBlock) (n : ℕ) → n < suc b.number → Falls (heap_numbers bs) n → All (λ c. b.number ≢ c.number) bs
+other_blocks b [] n l h = All-nil (λ c. b.number ≢ c.number)
+other_blocks b (c ∷ bs) n l h = All-cons (λ c. b.number ≢ c.number) c bs (let m : c.number < n = h.0 in omega arith) (other_blocks b bs c.number (let m : c.number < n = h.0 in omega arith) h.1)
+
+one_block_each : (bs : List HeapBlock) (n : ℕ) → Falls (heap_numbers bs) n → AllPairs (λ b c. b.number ≢ c.number) bs
+one_block_each [] n h = λ i j d l m. absurd (omega arith)
+one_block_each (b ∷ bs) n h = AllPairs-cons (λ b c. b.number ≢ c.number) b bs (other_blocks b bs b.number (omega arith) h.1) (one_block_each bs b.number h.1)
 
 -- ---- where a step stands
 
@@ -162,11 +175,15 @@ points_inside q frames (act.Return g None) h = tt
 points_inside q frames (act.Return g (Some v)) h = result_points h.function.result v h.result
 points_inside q frames (act.Read p) h = address_points p h
 points_inside q frames (act.Write p v) h = address_points p h
+points_inside q frames (act.Malloc n p k) h = address_points p h
+points_inside q frames (act.Free p) h = address_points p h
 points_inside q frames _ h = tt
 
 accesses_pointer : (q : Core) (frames : List Frame) (a : Action) → ActionFits q frames a → AccessesPointer a
 accesses_pointer q frames (act.Read p) h = address_pointer p h
 accesses_pointer q frames (act.Write p v) h = address_pointer p h
+accesses_pointer q frames (act.Malloc n p k) h = address_pointer p h
+accesses_pointer q frames (act.Free p) h = address_pointer p h
 accesses_pointer q frames _ h = tt
 
 one_function : (q : Core) (g k : ℕ) (f h : Function) → slice_get q.functions g ≡ Some f → slice_get q.functions k ≡ Some h → g ≡ k → f ≡ h
@@ -218,7 +235,7 @@ globals_there q s h = sym (length-map s.memory.globals cells_declared) ∙ (ap l
 
 step_of : (q : Core) (s : Step) → StepFits q s → IsPlaced q s → IsStepOf q s
 step_of q s h p = record {
-  memory = record { globals = globals_there q s h; globals_typed = blocks_typed s.memory.globals h.globals_fit; locals_typed = frames_typed s.memory.frames h.locals_fit; one_frame_each = one_frame_each s.memory.frames p.falling.0 p.falling.1 };
+  memory = record { globals = globals_there q s h; globals_typed = blocks_typed s.memory.globals h.globals_fit; locals_typed = frames_typed s.memory.frames h.locals_fit; heap_typed = heap_typed s.memory.heap h.heap_fit; one_frame_each = one_frame_each s.memory.frames p.falling.0 p.falling.1; one_block_each = one_block_each s.memory.heap h.heap_falls.0 h.heap_falls.1 };
   own_function = p.names_own;
   pointers = points_inside q s.memory.frames s.action h.action;
   accesses = accesses_pointer q s.memory.frames s.action h.action;

@@ -21,7 +21,7 @@ use Rattle.step_meaning.specs.declared.program.Core.{Core}
 use Rattle.step_meaning.specs.declared.program.Function.{Function}
 use Rattle.step_meaning.specs.Numbers.{is_in_range}
 use Rattle.step_meaning.specs.Types.{kind_number, same_type}
-use Rattle.step_meaning.specs.Memory.{Memory, Frame, Slot, Block, typed, slot_at, file_block, frame_of, frame_block, block, block_in}
+use Rattle.step_meaning.specs.Memory.{Memory, Frame, Slot, Block, typed, slot_at, file_block, HeapBlock, frame_of, frame_block, block_of, heap_block, block, block_in}
 use Rattle.step_meaning.specs.Steps.{Step}
 use Rattle.step_meaning.specs.Limits.{is_enter}
 use Rattle.step_meaning.specs.Views.{no_memory, visible_block}
@@ -109,6 +109,7 @@ block_read b o w v h e = slot_read (slot_at b o) w v (λ x f. let m = some_of_bi
 pub record MemoryTyped (memory : Memory) : Type 0 where
   pub globals : BlocksTyped memory.globals
   pub locals : All (λ f. BlocksTyped f.locals) memory.frames
+  pub heap : All (λ b. All SlotTyped b.cells) memory.heap
 
 pub file_typed : (memory : Memory) (a i : ℕ) (b : Block) → MemoryTyped memory → file_block memory a i ≡ Some b → All SlotTyped b
 file_typed memory zero i b h e = element_of_all (All SlotTyped) memory.globals i b h.globals e
@@ -123,18 +124,27 @@ frame_typed memory a i b h e =
     let m = some_of_bind (λ f. slice_get f.locals i) (frame_of a memory.frames) b e in
     element_of_all (All SlotTyped) m.0.locals i b (frame_of_all (λ f. BlocksTyped f.locals) memory.frames a m.0 h.locals m.1) m.2
 
+block_of_all : (P : HeapBlock → Type 0) (bs : List HeapBlock) (n : ℕ) (c : Block) → All P bs → block_of n bs ≡ Some c → (b : HeapBlock) × (b.cells ≡ c) × P b
+block_of_all P [] n c h e = none_is c e
+block_of_all P (b ∷ bs) n c h e = by_cases (Some b.cells) (block_of n bs) c ((b : HeapBlock) × (b.cells ≡ c) × P b) (b.number == n) (λ e. (b, some_is b.cells c e, All-head P b bs h)) (block_of_all P bs n c (All-tail P b bs h)) e
+
+pub heap_typed : (memory : Memory) (n i : ℕ) (b : Block) → MemoryTyped memory → heap_block memory n i ≡ Some b → All SlotTyped b
+heap_typed memory n zero b h e = let m = block_of_all (λ b. All SlotTyped b.cells) memory.heap n b h.heap e in subst (λ c. All SlotTyped c) m.1 m.2
+heap_typed memory n (suc i) b h e = none_is b e
+
 pub block_typed : (memory : Memory) (k : NameKind) (a i : ℕ) (b : Block) → MemoryTyped memory → block_in memory k a i ≡ Some b → All SlotTyped b
 block_typed memory names.Global a i b h e = file_typed memory a i b h e
 block_typed memory names.Local a i b h e = frame_typed memory a i b h e
+block_typed memory names.Heap a i b h e = heap_typed memory a i b h e
 block_typed memory names.Register a i b h e = none_is b e
 block_typed memory names.GhostGlobal a i b h e = none_is b e
 block_typed memory names.GhostLocal a i b h e = none_is b e
 
 pub none_typed : MemoryTyped no_memory
-none_typed = record { globals = All-nil (All SlotTyped); locals = All-nil (λ f. BlocksTyped f.locals) }
+none_typed = record { globals = All-nil (All SlotTyped); locals = All-nil (λ f. BlocksTyped f.locals); heap = All-nil (λ b. All SlotTyped b.cells) }
 
 pub step_typed : (q : Core) (s : Step) → IsStepOf q s → MemoryTyped s.memory
-step_typed q s h = record { globals = h.memory.globals_typed; locals = h.memory.locals_typed }
+step_typed q s h = record { globals = h.memory.globals_typed; locals = h.memory.locals_typed; heap = h.memory.heap_typed }
 
 either_typed : (b : Bool) (m n : Memory) → MemoryTyped m → MemoryTyped n → MemoryTyped (cond b m n)
 either_typed true m n h k = h
@@ -172,6 +182,8 @@ parameter_typed q (act.Read x) g fn own found has f i u v e w p = none_is f e
 parameter_typed q (act.Write x y) g fn own found has f i u v e w p = none_is f e
 parameter_typed q act.Input g fn own found has f i u v e w p = none_is f e
 parameter_typed q (act.Output b) g fn own found has f i u v e w p = none_is f e
+parameter_typed q (act.Malloc n x k) g fn own found has f i u v e w p = none_is f e
+parameter_typed q (act.Free x) g fn own found has f i u v e w p = none_is f e
 parameter_typed q act.Turn g fn own found has f i u v e w p = none_is f e
 parameter_typed q (act.Halt x) g fn own found has f i u v e w p = none_is f e
 
@@ -194,6 +206,8 @@ result_typed q (act.Read x) g fn own found has f u v e w p = none_is f e
 result_typed q (act.Write x y) g fn own found has f u v e w p = none_is f e
 result_typed q act.Input g fn own found has f u v e w p = none_is f e
 result_typed q (act.Output b) g fn own found has f u v e w p = none_is f e
+result_typed q (act.Malloc n x k) g fn own found has f u v e w p = none_is f e
+result_typed q (act.Free x) g fn own found has f u v e w p = none_is f e
 result_typed q act.Turn g fn own found has f u v e w p = none_is f e
 result_typed q (act.Halt x) g fn own found has f u v e w p = none_is f e
 
@@ -205,6 +219,8 @@ access_typed (act.Return g r) v h e = none_is v e
 access_typed (act.Call g) v h e = none_is v e
 access_typed act.Input v h e = none_is v e
 access_typed (act.Output b) v h e = none_is v e
+access_typed (act.Malloc n p k) v h e = none_is v e
+access_typed (act.Free p) v h e = none_is v e
 access_typed act.Turn v h e = none_is v e
 access_typed (act.Halt f) v h e = none_is v e
 
@@ -214,6 +230,7 @@ module _ (q : Core) (ss : List Step) (traced : IsTraced q ss) (s : Step) (step :
   visible_typed : (k : NameKind) (n : Name) (b : Block) → visible_block (sight_of q ss s) k n ≡ Some b → All SlotTyped b
   visible_typed names.Global n b e = block_typed s.memory n.kind n.activation n.index b (step_typed q s step) e
   visible_typed names.Local n b e = block_typed s.memory n.kind n.activation n.index b (step_typed q s step) e
+  visible_typed names.Heap n b e = block_typed s.memory n.kind n.activation n.index b (step_typed q s step) e
   visible_typed names.Register n b e = by_cases None None b (All SlotTyped b) (n.activation == s.activation) (λ e. none_is b e) (λ e. none_is b e) e
   visible_typed names.GhostGlobal n b e = file_typed no_memory n.activation n.index b none_typed e
   visible_typed names.GhostLocal n b e = frame_typed no_memory n.activation n.index b none_typed e

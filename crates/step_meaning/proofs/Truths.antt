@@ -41,6 +41,7 @@ memory x =
     record {
       globals = global_blocks (pair ∷ []) (declared int ∷ declared pointer_type ∷ declared (type.Array' tt (more_of-CType int end_of-CType) 10) ∷ declared (type.Struct 0) ∷ []) ((value.Int (pos x) ∷ []) ∷ (value.Null ∷ []) ∷ (value.Int (pos 0) ∷ value.Int (pos 0) ∷ []) ∷ [] ∷ []);
       frames = [];
+      heap = [];
     }
 
 -- now, after an Enter step at which x held 1

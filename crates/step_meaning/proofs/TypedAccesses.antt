@@ -22,7 +22,7 @@ use Rattle.step_meaning.specs.Accesses as acc
 use Rattle.step_meaning.specs.Traced.{CellHasType, SlotTyped}
 use Rattle.step_meaning.proofs.Ranges.{natural_in_range, low_bits_below}
 use Rattle.step_meaning.proofs.OperatorRanges.{OnOk, InRange}
-use Rattle.step_meaning.proofs.TypedMemory.{Each, WhereSome, get_fits, InCell, Takes, typed_fits, takes_typed, Shape, reached_fits, room_fits, stored_fits}
+use Rattle.step_meaning.proofs.TypedMemory.{Each, WhereSome, get_fits, InCell, Takes, typed_fits, takes_typed, Shape, reached_fits, room_fits, stored_fits, stored_falls}
 use Rattle.step_meaning.proofs.StepsFit.{IsAddress}
 use Rattle.step_meaning.proofs.Kept.{RegistersFit, Fits, GivesFit, Keeps, Always, step_fits, keeps_pure, keeps_bind, keeps_halt, keeps_misuse, keeps_get, keeps_registers, keeps_emit, keeps_put_input}
 
@@ -113,7 +113,7 @@ module _ {q : Core} {frames : List Shape} {registers : List CType} (here : Here)
     where
       at : (w : World) (r : Registers) → Fits q frames w → RegistersFit registers r → (c : Option Cell) → reached w.memory p t ≡ c → GivesFit q frames registers (InCell t) (acc.write_at direct here p v c w r)
       at w r m k None e = (refl, (step_fits q frames here (act.Halt fault.Invalid) w m tt, m.1))
-      at w r m k (Some c) e = (h, (stored_fits m.0 p t v c e h, m.1), k)
+      at w r m k (Some c) e = (h, (stored_fits m.0 p t v c e h, m.1, stored_falls w.memory p (Holds v) w.allocated m.2), k)
 
   -- ---- addresses
 

@@ -51,14 +51,14 @@ closes_bind {q = q} {inner = inner} {frames = frames} {registers = registers} {A
     on (Stuck e l) g = g
 
 tail_fits : (globals : List (List CType)) (s : Shape) (frames : List Shape) (memory : Memory) → MemoryFits globals (s ∷ frames) memory → MemoryFits globals frames (record memory { frames = drop 1 memory.frames })
-tail_fits globals s frames memory h = record { globals_declared = h.globals_declared; frames_declared = drop_map shape_of memory.frames ∙ ap (λ ss. drop 1 ss) h.frames_declared; globals_fit = h.globals_fit; locals_fit = rest memory.frames h.locals_fit }
+tail_fits globals s frames memory h = record { globals_declared = h.globals_declared; frames_declared = drop_map shape_of memory.frames ∙ ap (λ ss. drop 1 ss) h.frames_declared; globals_fit = h.globals_fit; locals_fit = rest memory.frames h.locals_fit; heap_fit = h.heap_fit }
   where
     rest : (fs : List Frame) → Each FrameFits fs → Each FrameFits (drop 1 fs)
     rest [] h = tt
     rest (f ∷ fs) h = h.1
 
 closes_frame : (q : Core) (s : Shape) (frames : List Shape) (registers : List CType) (P : Value → Type 0) (v : Value) → P v → Closes q (s ∷ frames) frames registers P (direct.bind (ca.close_frame direct) (λ u. direct.pure v))
-closes_frame q s frames registers P v h = record { by = λ w r m k. (h, (tail_fits (global_cells q) s frames w.memory m.0, m.1), k) }
+closes_frame q s frames registers P v h = record { by = λ w r m k. (h, (tail_fits (global_cells q) s frames w.memory m.0, m.1, m.2), k) }
 
 -- ---- the variables of an activation
 
@@ -180,7 +180,7 @@ module _ (q : Core) (frames outer : List Shape) (registers : List CType) (here :
   -- the annotations that begin a body make no step and change no variable of the program
   after_leading : (ss : List Stmt) (w : World) (r : Registers) → w.memory ≡ memory → Fits q frames w → RegistersFit registers r → GivesFit q outer registers P (onward (sm.exec_all direct q.layouts call here bound (annotations ss) w r) f)
   after_leading (st.Ghost g ∷ ss) w r e m l = after_leading ss (record w { ghosts = ghosts_after q.layouts here w.memory r g w.ghosts }) r e m l
-  after_leading (st.Assert v k p ∷ ss) w r e m l = after_leading ss (record w { log = verdict_of k v (assertion_holds q.layouts here w.memory r w.ghosts p) ∷ w.log }) r e (m.0, (tt, m.1)) l
+  after_leading (st.Assert v k p ∷ ss) w r e m l = after_leading ss (record w { log = verdict_of k v (assertion_holds q.layouts here w.memory r w.ghosts p) ∷ w.log }) r e (m.0, (tt, m.1), m.2) l
   after_leading _ w r e m l = h w r e m l
 
 module _ (q : Core) (bound : ℕ) (sizes : SizesFit q.layouts) where
@@ -220,7 +220,7 @@ module _ (q : Core) (bound : ℕ) (sizes : SizesFit q.layouts) where
           closes_frame q s frames registers (OfType fn.result) (value_or_zero v) (value_fits fn.result v k))))
 
       opened : (w : World) → Fits q frames w → CallGivesFit q frames (OfType fn.result) (direct.alone (unset_registers fn.registers) (ca.activation direct q bound call g fn body vs) w)
-      opened w m = on_call (ca.activation direct q bound call g fn body vs w (unset_registers fn.registers)) (after_leading q (own ∷ frames) frames registers here call bound begun (OfType fn.result) (λ c. direct.bind (direct.emit here (act.Enter g vs)) (λ u. rest here)) entered body _ (unset_registers fn.registers) refl (begun_fits, m.1) (unset_fit fn.registers))
+      opened w m = on_call (ca.activation direct q bound call g fn body vs w (unset_registers fn.registers)) (after_leading q (own ∷ frames) frames registers here call bound begun (OfType fn.result) (λ c. direct.bind (direct.emit here (act.Enter g vs)) (λ u. rest here)) entered body _ (unset_registers fn.registers) refl (begun_fits, m.1, m.2) (unset_fit fn.registers))
         where
           here : Here
           here = record { function = g; activation = w.made }
@@ -232,7 +232,7 @@ module _ (q : Core) (bound : ℕ) (sizes : SizesFit q.layouts) where
           begun = with_frame (first_frame q.layouts fn w.made vs) w.memory
 
           begun_fits : MemoryFits (global_cells q) (own ∷ frames) begun
-          begun_fits = record { globals_declared = m.0.globals_declared; frames_declared = ap (λ ss. own ∷ ss) m.0.frames_declared; globals_fit = m.0.globals_fit; locals_fit = (arguments_fit q.layouts sizes fn.locals fn.params vs h.locals h.parameters arguments, m.0.locals_fit) }
+          begun_fits = record { globals_declared = m.0.globals_declared; frames_declared = ap (λ ss. own ∷ ss) m.0.frames_declared; globals_fit = m.0.globals_fit; locals_fit = (arguments_fit q.layouts sizes fn.locals fn.params vs h.locals h.parameters arguments, m.0.locals_fit); heap_fit = m.0.heap_fit }
 
           begun_alone : (g == q.start) ≡ is_empty w.memory.frames
           begun_alone = alone ∙ (sym (ap is_empty m.0.frames_declared) ∙ is_empty_map shape_of w.memory.frames)
@@ -241,4 +241,4 @@ module _ (q : Core) (bound : ℕ) (sizes : SizesFit q.layouts) where
           enters = record { function = fn; found = found; arguments = arguments; hold = arguments_hold q.layouts fn.locals fn.params vs h.parameters arguments; main_alone = begun_alone }
 
           entered : (v : World) (r : Registers) → v.memory ≡ begun → Fits q (own ∷ frames) v → RegistersFit registers r → GivesFit q frames registers (OfType fn.result) (direct.bind (direct.emit here (act.Enter g vs)) (λ u. rest here) v r)
-          entered v r e k l = (closed here own).by (record v { log = step_by here (act.Enter g vs) v.memory ∷ v.log }) r (k.0, (step_fits q (own ∷ frames) here (act.Enter g vs) v k (subst (λ x. EnterFits q x.frames g vs) (sym e) enters), k.1)) l
+          entered v r e k l = (closed here own).by (record v { log = step_by here (act.Enter g vs) v.memory ∷ v.log }) r (k.0, (step_fits q (own ∷ frames) here (act.Enter g vs) v k (subst (λ x. EnterFits q x.frames g vs) (sym e) enters), k.1), k.2) l

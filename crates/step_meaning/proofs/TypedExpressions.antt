@@ -2,7 +2,7 @@
 use Rattle.std.proofs.Common.{◌≡◌, ℕ, Bool, true, false, cond, ◌&&◌, not, List, [], ◌∷◌, map, Option, Some, None, refl, sym, subst, arith}
 use Rattle.std.specs.Prelude.{pos, int_le, slice_get, option_map, is_some}
 use Rattle.step_meaning.specs.declared.value.IntKind.TheVariants as kind
-use Rattle.step_meaning.specs.declared.value.CType.{CType}
+use Rattle.step_meaning.specs.declared.value.CType.{CType, end_of-CType, more_of-CType}
 use Rattle.step_meaning.specs.declared.value.CType.TheVariants as type
 use Rattle.step_meaning.specs.declared.value.NameKind.{NameKind}
 use Rattle.step_meaning.specs.declared.value.NameKind.TheVariants as names
@@ -11,7 +11,7 @@ use Rattle.step_meaning.specs.declared.value.Value.TheVariants as value
 use Rattle.step_meaning.specs.declared.value.Action.TheVariants as act
 use Rattle.step_meaning.specs.declared.expr.CompareOp.{CompareOp}
 use Rattle.step_meaning.specs.declared.expr.Expr.{Expr, Row_of-Expr, end_of-Expr, more_of-Expr}
-use Rattle.step_meaning.specs.declared.expr.Expr.TheVariants.{Literal, Null, Load, Address, Convert', Unary', Binary', Compare', Move', Difference', Not', Both', Either', Choose', Assign', Update', Invoke', GetChar, PutChar', Discard', Own, Deref', Member', Index'}
+use Rattle.step_meaning.specs.declared.expr.Expr.TheVariants.{Literal, Null, Load, Address, Convert', Unary', Binary', Compare', Move', Difference', Not', Both', Either', Choose', Assign', Update', Invoke', GetChar, PutChar', Malloc', Free', Discard', Own, Deref', Member', Index'}
 use Rattle.step_meaning.specs.declared.expr.Place_.{Place_, end_of-Place_, more_of-Place_}
 use Rattle.step_meaning.specs.declared.program.Function.{Function}
 use Rattle.step_meaning.specs.declared.program.Core.{Core}
@@ -27,11 +27,12 @@ use Rattle.step_meaning.specs.ExpressionTypes.{has_this_type, has_kind, has_scal
 use Rattle.step_meaning.specs.ExpressionTypes as typing
 use Rattle.step_meaning.proofs.Ranges.{false_is_not_true, left_of_and, right_of_and}
 use Rattle.step_meaning.proofs.TypedMemory.{WhereSome, InCell, Shape}
-use Rattle.step_meaning.proofs.StepsFit.{InCells}
-use Rattle.step_meaning.proofs.TypedAccesses.{keeps_get_char, keeps_put_char}
+use Rattle.step_meaning.proofs.StepsFit.{IsAddress, InCells}
+use Rattle.step_meaning.proofs.TypedAccesses.{address_of_type, type_of_address, keeps_get_char, keeps_put_char}
+use Rattle.step_meaning.proofs.TypedAllocation.{keeps_allocate, keeps_release}
 use Rattle.step_meaning.proofs.TypedOperators.{OfType, where_true_fits, either_true, Typed, kind_keeps, some_keeps, scalar_is_some, keeps_convert, keeps_unary, keeps_binary, keeps_compare, keeps_not, keeps_both, keeps_either, keeps_move, keeps_difference}
 use Rattle.step_meaning.proofs.TypedPlaces.{Designates, all_some, NullKeeps, PlaceTyped, keeps_choice, taken_keeps, keeps_read, keeps_assign, keeps_update, keeps_address, keeps_deref, keeps_member, keeps_element}
-use Rattle.step_meaning.proofs.Kept.{CallKeeps, Keeps, keeps_pure, keeps_bind, keeps_emit, keeps_through}
+use Rattle.step_meaning.proofs.Kept.{CallKeeps, Keeps, keeps_pure, keeps_bind, keeps_weaker, keeps_emit, keeps_through}
 
 null_is : (e : Expr) → is_null_constant e ≡ true → e ≡ Null
 null_is Null h = refl
@@ -62,10 +63,10 @@ module _ (q : Core) (f : Function) (frames : List Shape) (here : Here) (call : �
   K P d = Keeps q frames register_types P d
 
   abbrev pub eval : Expr → Direct Value
-  eval e = ex.eval direct call here e
+  eval e = ex.eval direct q.layouts call here e
 
   abbrev pub place : Place_ → Direct Lvalue
-  place p = ex.place direct call here p
+  place p = ex.place direct q.layouts call here p
 
   -- registers are scalars
   abbrev pub ScalarRegisters : Type 0
@@ -97,6 +98,7 @@ module _ (q : Core) (f : Function) (frames : List Shape) (here : Here) (call : �
       by : (o : Option CType) → WhereSome (λ t. is_scalar t ≡ true) o → WhereSome (λ t. K (Designates true t) (direct.pure (InRegister i))) o
       by None h = tt
       by (Some t) h = keeps_pure (InRegister i) (refl, h)
+  keeps_own scalars names.Heap i = tt
   keeps_own scalars names.GhostGlobal i = tt
   keeps_own scalars names.GhostLocal i = tt
 
@@ -107,6 +109,10 @@ module _ (q : Core) (f : Function) (frames : List Shape) (here : Here) (call : �
   keeps_chosen : (c : Bool) (e g h : Expr) → has_scalar_type (typing.type_of q own e) ≡ c → Typed q frames register_types (typing.type_of q own e) (eval e) → Typed q frames register_types (typing.type_of q own g) (eval g) → Typed q frames register_types (typing.type_of q own h) (eval h) → Typed q frames register_types (cond c (choice_type g (typing.type_of q own g) h (typing.type_of q own h)) None) (direct.bind (eval e) (λ v. cond (truth v) (eval g) (eval h)))
   keeps_chosen true e g h s i j k = keeps_choice q frames register_types here g h (typing.type_of q own g) (typing.type_of q own h) (eval e) (eval g) (eval h) (some_keeps q frames register_types here (typing.type_of q own e) (eval e) (scalar_is_some q frames register_types here (typing.type_of q own e) s) i) j k (null_keeps g) (null_keeps h)
   keeps_chosen false e g h s i j k = tt
+
+  keeps_pointer : (o : Option CType) (d : Direct Value) → typing.has_pointer_type o ≡ true → Typed q frames register_types o d → K IsAddress d
+  keeps_pointer (Some (type.Pointer' b t)) d e h = keeps_weaker (λ v k. address_of_type b t v k) h
+  keeps_pointer _ d e h = false_is_not_true e
 
   module _ (scalars : ScalarRegisters) (calls : CallsKeep) where
     mutual
@@ -134,9 +140,16 @@ module _ (q : Core) (f : Function) (frames : List Shape) (here : Here) (call : �
           keeps_chosen (has_scalar_type (typing.type_of q own e)) e g h refl (keeps_eval e) (keeps_eval g) (keeps_eval h)
       keeps_eval (Assign' p t b (more_of-Expr e end_of-Expr)) = where_true_fits _ (has_this_type t (typing.type_of_place q own p) && is_taken_by t e (typing.type_of q own e)) t (λ h. keeps_assign q frames register_types here (is_register p) t e (typing.type_of_place q own p) (typing.type_of q own e) (place p) (eval e) h (keeps_place p) (keeps_eval e) (null_keeps e))
       keeps_eval (Update' p t u b (more_of-Expr e end_of-Expr) w) = where_true_fits _ (has_this_type t (typing.type_of_place q own p) && (typing.is_operation own.layouts t u (typing.type_of q own e) && may_answer t u e w)) t (λ h. keeps_update q frames register_types here own.layouts (is_register p) t u w (may_answer t u e w) (typing.type_of_place q own p) (typing.type_of q own e) (place p) (eval e) h (keeps_place p) (keeps_eval e))
-      keeps_eval (Invoke' g b es) = keeps_call g (typing.are_arguments q own es) (called q g) (ex.all direct call here es) (calls g) (keeps_all es)
+      keeps_eval (Invoke' g b es) = keeps_call g (typing.are_arguments q own es) (called q g) (ex.all direct q.layouts call here es) (calls g) (keeps_all es)
       keeps_eval GetChar = keeps_get_char here
       keeps_eval (PutChar' b (more_of-Expr e end_of-Expr)) = where_true_fits _ (has_kind kind.Int (typing.type_of q own e)) (type.Int kind.Int) (λ h. keeps_bind (kind_keeps q frames register_types here kind.Int (typing.type_of q own e) (eval e) h (keeps_eval e)) (λ v k. keeps_put_char here v))
+      keeps_eval (Malloc' b (more_of-Expr e end_of-Expr) t) =
+          where_true_fits _ (has_kind kind.ULong (typing.type_of q own e) && typing.is_allocated_type own.layouts t) (pointer_to t) (λ h.
+          keeps_bind (kind_keeps q frames register_types here kind.ULong (typing.type_of q own e) (eval e) (left_of_and _ _ h) (keeps_eval e)) (λ v k.
+          keeps_weaker (λ p a. type_of_address tt (more_of-CType t end_of-CType) p a) (keeps_allocate here q.layouts t v)))
+      keeps_eval (Free' b (more_of-Expr e end_of-Expr)) =
+          where_true_fits _ (typing.has_pointer_type (typing.type_of q own e)) type.Void (λ h.
+          keeps_bind (keeps_pointer (typing.type_of q own e) (eval e) h (keeps_eval e)) (λ p a. keeps_release here p a))
       keeps_eval (Discard' b (more_of-Expr e end_of-Expr)) = where_true_fits _ (is_some (typing.type_of q own e)) type.Void (λ h. keeps_bind (some_keeps q frames register_types here (typing.type_of q own e) (eval e) h (keeps_eval e)) (λ v k. keeps_pure (value.Int (pos 0)) tt))
 
       pub keeps_place : (p : Place_) → PlaceTyped q frames register_types here (is_register p) (typing.type_of_place q own p) (place p)
@@ -145,7 +158,7 @@ module _ (q : Core) (f : Function) (frames : List Shape) (here : Here) (call : �
       keeps_place (Member' b (more_of-Place_ p end_of-Place_) o) = keeps_member q frames register_types here own.layouts (is_register p) o (typing.type_of_place q own p) (place p) (keeps_place p)
       keeps_place (Index' b (more_of-Place_ p end_of-Place_) c (more_of-Expr e end_of-Expr) size) = keeps_element q frames register_types here own.layouts (is_register p) size (typing.type_of_place q own p) (typing.type_of q own e) (place p) (eval e) (keeps_place p) (keeps_eval e)
 
-      pub keeps_all : {n : _} (es : Row_of-Expr n) (ts : List CType) → typing.are_arguments q own es ts ≡ true → K (InCells ts) (ex.all direct call here es)
+      pub keeps_all : {n : _} (es : Row_of-Expr n) (ts : List CType) → typing.are_arguments q own es ts ≡ true → K (InCells ts) (ex.all direct q.layouts call here es)
       keeps_all end_of-Expr [] h = keeps_pure [] tt
       keeps_all end_of-Expr (t ∷ ts) h = false_is_not_true h
       keeps_all (more_of-Expr e more) [] h = false_is_not_true h

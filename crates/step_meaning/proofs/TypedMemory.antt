@@ -1,5 +1,5 @@
 -- Memories whose cells hold values of their types stay so, and an access gives a value of its type.
-use Rattle.std.proofs.Common.{◌≡◌, ℕ, zero, suc, ◌<◌, ◌^◌, Bool, true, false, cond, List, [], ◌∷◌, length, map, drop, Option, Some, None, refl, ap, ◌∙◌}
+use Rattle.std.proofs.Common.{◌≡◌, ℕ, zero, suc, ◌<◌, ◌^◌, Bool, true, false, cond, List, [], ◌∷◌, length, map, drop, Option, Some, None, refl, sym, ap, subst, ◌∙◌, arith}
 use Rattle.std.specs.Prelude.{slice_get, option_and_then, option_map, IsTrue, ◌==◌}
 use Rattle.std.specs.List.{AllByRecursion}
 use Rattle.std.proofs.lemmas.Bool.{eqb-true}
@@ -16,10 +16,11 @@ use Rattle.step_meaning.specs.declared.value.Value.TheVariants as value
 use Rattle.step_meaning.specs.declared.value.Cell.{Cell}
 use Rattle.step_meaning.specs.declared.value.Cell.TheVariants.{Nothing, Holds}
 use Rattle.step_meaning.specs.Types.{kind_number, same_type}
-use Rattle.step_meaning.specs.Memory.{Slot, Block, Frame, Memory, filled, typed, slot_at, block, block_in, frame_of, room_at, reached, set_cell, at_block, at_frame, changed, stored}
+use Rattle.step_meaning.specs.Memory.{Slot, Block, Frame, HeapBlock, Memory, filled, typed, slot_at, block, block_in, frame_of, block_of, heap_block, room_at, reached, set_cell, at_block, at_frame, at_heap, changed, stored, with_block, without, begins_block, freed}
 use Rattle.step_meaning.specs.Numbers.{is_in_range}
 use Rattle.step_meaning.specs.Traced.{HasType, CellHasType, SlotTyped, PointsIntoProgram}
 use Rattle.step_meaning.specs.TracedRuns.{cells_declared}
+use Rattle.step_meaning.proofs.Falling.{Falls, falls_more}
 use Rattle.step_meaning.proofs.Ranges.{and_true, false_is_not_true, left_of_and, right_of_and}
 
 -- ---- lists and options
@@ -220,6 +221,55 @@ frames_shaped c o i a (r ∷ rs) = by (r.activation == a) (frames_shaped c o i a
     by true rest = ap (λ ts. record { activation = r.activation; cells = ts } ∷ map shape_of rs) (blocks_declared c o i r.locals)
     by false rest = ap (λ ss. shape_of r ∷ ss) rest
 
+-- ---- heap blocks
+
+abbrev pub HeapFits : HeapBlock → Type 0
+HeapFits b = BlockFits b.cells
+
+abbrev pub heap_numbers : List HeapBlock → List ℕ
+heap_numbers bs = map (λ b. b.number) bs
+
+pub block_of_fits : (n : ℕ) (bs : List HeapBlock) → Each HeapFits bs → WhereSome BlockFits (block_of n bs)
+block_of_fits n [] h = tt
+block_of_fits n (b ∷ bs) h = by (b.number == n) (block_of_fits n bs h.1)
+  where
+    by : (c : Bool) → WhereSome BlockFits (block_of n bs) → WhereSome BlockFits (cond c (Some b.cells) (block_of n bs))
+    by true rest = h.0
+    by false rest = rest
+
+pub heap_fits : (c : Cell) (o n : ℕ) (bs : List HeapBlock) → WhereSome (Takes c) (slot_at (block_of n bs) o) → Each HeapFits bs → Each HeapFits (at_heap (set_cell c o) n bs)
+heap_fits c o n [] f h = tt
+heap_fits c o n (b ∷ bs) f h = by (b.number == n) f (λ g. heap_fits c o n bs g h.1)
+  where
+    by : (d : Bool) → WhereSome (Takes c) (slot_at (cond d (Some b.cells) (block_of n bs)) o) → (WhereSome (Takes c) (slot_at (block_of n bs) o) → Each HeapFits (at_heap (set_cell c o) n bs)) → Each HeapFits (cond d (record b { cells = set_cell c o b.cells } ∷ bs) (b ∷ at_heap (set_cell c o) n bs))
+    by true f rest = ((set_fits c o b.cells f h.0.0, rw (set_length c o b.cells) h.0.1), h.1)
+    by false f rest = (h.0, rest f)
+
+pub heap_numbered : (f : Block → Block) (n : ℕ) (bs : List HeapBlock) → heap_numbers (at_heap f n bs) ≡ heap_numbers bs
+heap_numbered f n [] = refl
+heap_numbered f n (b ∷ bs) = by (b.number == n) (heap_numbered f n bs)
+  where
+    by : (c : Bool) → heap_numbers (at_heap f n bs) ≡ heap_numbers bs → heap_numbers (cond c (record b { cells = f b.cells } ∷ bs) (b ∷ at_heap f n bs)) ≡ heap_numbers (b ∷ bs)
+    by true rest = refl
+    by false rest = ap (λ ns. b.number ∷ ns) rest
+
+-- the blocks that are left when one ends
+pub without_fits : (n : ℕ) (bs : List HeapBlock) → Each HeapFits bs → Each HeapFits (without n bs)
+without_fits n [] h = tt
+without_fits n (b ∷ bs) h = by (b.number == n) (without_fits n bs h.1)
+  where
+    by : (c : Bool) → Each HeapFits (without n bs) → Each HeapFits (cond c bs (b ∷ without n bs))
+    by true rest = h.1
+    by false rest = (h.0, rest)
+
+pub without_falls : (n : ℕ) (bs : List HeapBlock) (m : ℕ) → Falls (heap_numbers bs) m → Falls (heap_numbers (without n bs)) m
+without_falls n [] m h = tt
+without_falls n (b ∷ bs) m h = by (b.number == n) (without_falls n bs b.number h.1)
+  where
+    by : (c : Bool) → Falls (heap_numbers (without n bs)) b.number → Falls (heap_numbers (cond c bs (b ∷ without n bs))) m
+    by true rest = falls_more (heap_numbers bs) b.number m (let l : b.number < m = h.0 in omega arith) h.1
+    by false rest = (h.0, rest)
+
 -- ---- memories
 
 pub record MemoryFits (globals : List (List CType)) (frames : List Shape) (memory : Memory) : Type 0 where
@@ -227,6 +277,7 @@ pub record MemoryFits (globals : List (List CType)) (frames : List Shape) (memor
   pub frames_declared : map shape_of memory.frames ≡ frames
   pub globals_fit : Each BlockFits memory.globals
   pub locals_fit : Each FrameFits memory.frames
+  pub heap_fit : Each HeapFits memory.heap
 
 module _ {globals : List (List CType)} {frames : List Shape} {memory : Memory} (h : MemoryFits globals frames memory) where
   pub block_fits : (n : Name) → WhereSome BlockFits (block memory n)
@@ -236,6 +287,11 @@ module _ {globals : List (List CType)} {frames : List Shape} {memory : Memory} (
       by names.Global zero = get_fits BlockFits memory.globals n.index h.globals_fit
       by names.Global (suc a) = tt
       by names.Local a = local_fits n.index (frame_of a memory.frames) (frame_fits a memory.frames h.locals_fit)
+      by names.Heap a = heap a n.index
+        where
+          heap : (a i : ℕ) → WhereSome BlockFits (heap_block memory a i)
+          heap a zero = block_of_fits a memory.heap h.heap_fit
+          heap a (suc i) = tt
       by names.Register a = tt
       by names.GhostGlobal a = tt
       by names.GhostLocal a = tt
@@ -258,17 +314,62 @@ module _ {globals : List (List CType)} {frames : List Shape} {memory : Memory} (
 
   -- where an access at the type is allowed, a value of the type is stored
   pub stored_fits : (p : Value) (t : CType) (v : Value) (c : Cell) → reached memory p t ≡ Some c → InCell t v → MemoryFits globals frames (stored memory p (Holds v))
-  stored_fits (value.Pointer n o) t v c e k = by n.kind n.activation e (takes_typed (slot_at (block memory n) o) t v c e k)
+  stored_fits (value.Pointer n o) t v c e k = by n.kind n.activation n.index e (takes_typed (slot_at (block memory n) o) t v c e k)
     where
       none_is_not_some : None ≡ Some c → ⊥
       none_is_not_some e = cc
 
-      by : (k : NameKind) (a : ℕ) → typed (slot_at (block_in memory k a n.index) o) t ≡ Some c → WhereSome (Takes (Holds v)) (slot_at (block_in memory k a n.index) o) → MemoryFits globals frames (changed memory k a (at_block (set_cell (Holds v) o) n.index))
-      by names.Global zero e f = record { globals_declared = blocks_declared (Holds v) o n.index memory.globals ∙ h.globals_declared; frames_declared = h.frames_declared; globals_fit = blocks_fit (Holds v) o n.index memory.globals f h.globals_fit; locals_fit = h.locals_fit }
-      by names.Global (suc a) e f = absurd (none_is_not_some e)
-      by names.Local a e f = record { globals_declared = h.globals_declared; frames_declared = frames_shaped (Holds v) o n.index a memory.frames ∙ h.frames_declared; globals_fit = h.globals_fit; locals_fit = frames_fit (Holds v) o n.index a memory.frames f h.locals_fit }
-      by names.Register a e f = h
-      by names.GhostGlobal a e f = h
-      by names.GhostLocal a e f = h
+      by : (k : NameKind) (a i : ℕ) → typed (slot_at (block_in memory k a i) o) t ≡ Some c → WhereSome (Takes (Holds v)) (slot_at (block_in memory k a i) o) → MemoryFits globals frames (changed memory k a i (set_cell (Holds v) o))
+      by names.Global zero i e f = record { globals_declared = blocks_declared (Holds v) o i memory.globals ∙ h.globals_declared; frames_declared = h.frames_declared; globals_fit = blocks_fit (Holds v) o i memory.globals f h.globals_fit; locals_fit = h.locals_fit; heap_fit = h.heap_fit }
+      by names.Global (suc a) i e f = absurd (none_is_not_some e)
+      by names.Local a i e f = record { globals_declared = h.globals_declared; frames_declared = frames_shaped (Holds v) o i a memory.frames ∙ h.frames_declared; globals_fit = h.globals_fit; locals_fit = frames_fit (Holds v) o i a memory.frames f h.locals_fit; heap_fit = h.heap_fit }
+      by names.Heap a zero e f = record { globals_declared = h.globals_declared; frames_declared = h.frames_declared; globals_fit = h.globals_fit; locals_fit = h.locals_fit; heap_fit = heap_fits (Holds v) o a memory.heap f h.heap_fit }
+      by names.Heap a (suc i) e f = absurd (none_is_not_some e)
+      by names.Register a i e f = h
+      by names.GhostGlobal a i e f = h
+      by names.GhostLocal a i e f = h
   stored_fits value.Null t v c e k = h
   stored_fits (value.Int z) t v c e k = h
+
+  -- with a new block
+  pub block_begins : (n : ℕ) (b : Block) → BlockFits b → MemoryFits globals frames (with_block n b memory)
+  block_begins n b k = record { globals_declared = h.globals_declared; frames_declared = h.frames_declared; globals_fit = h.globals_fit; locals_fit = h.locals_fit; heap_fit = (k, h.heap_fit) }
+
+  -- and without one that ends
+  pub freed_fits : (p : Value) → WhereSome (MemoryFits globals frames) (freed memory p)
+  freed_fits value.Null = h
+  freed_fits (value.Int z) = tt
+  freed_fits (value.Pointer n o) = by (begins_block memory n o)
+    where
+      by : (b : Bool) → WhereSome (MemoryFits globals frames) (cond b (Some (record memory { heap = without n.activation memory.heap })) None)
+      by true = record { globals_declared = h.globals_declared; frames_declared = h.frames_declared; globals_fit = h.globals_fit; locals_fit = h.locals_fit; heap_fit = without_fits n.activation memory.heap h.heap_fit }
+      by false = tt
+
+-- ---- numbers of heap blocks
+
+-- they fall, and are below the count of blocks that were made
+abbrev pub HeapFalls : Memory → ℕ → Type 0
+HeapFalls memory n = Falls (heap_numbers memory.heap) n
+
+pub stored_falls : (memory : Memory) (p : Value) (c : Cell) (n : ℕ) → HeapFalls memory n → HeapFalls (stored memory p c) n
+stored_falls memory value.Null c n h = h
+stored_falls memory (value.Int z) c n h = h
+stored_falls memory (value.Pointer m o) c n h = by m.kind m.index
+  where
+    by : (k : NameKind) (i : ℕ) → HeapFalls (changed memory k m.activation i (set_cell c o)) n
+    by names.Heap zero = subst (λ ns. Falls ns n) (sym (heap_numbered (set_cell c o) m.activation memory.heap)) h
+    by names.Heap (suc i) = h
+    by names.Global i = h
+    by names.Local i = h
+    by names.Register i = h
+    by names.GhostGlobal i = h
+    by names.GhostLocal i = h
+
+pub freed_falls : (memory : Memory) (p : Value) (n : ℕ) → HeapFalls memory n → WhereSome (λ x. HeapFalls x n) (freed memory p)
+freed_falls memory value.Null n h = h
+freed_falls memory (value.Int z) n h = tt
+freed_falls memory (value.Pointer m o) n h = by (begins_block memory m o)
+  where
+    by : (b : Bool) → WhereSome (λ x. HeapFalls x n) (cond b (Some (record memory { heap = without m.activation memory.heap })) None)
+    by true = without_falls m.activation memory.heap n h
+    by false = tt

@@ -31,6 +31,7 @@ use Rattle.step_meaning.proofs.Ranges.{false_is_not_true, left_of_and, right_of_
 use Rattle.step_meaning.proofs.TypedMemory.{Each, WhereSome, is_empty, get_fits, InCell, has_same_type, same_type_turned, number_same, BlockFits, filled_declared, Shape, MemoryFits}
 use Rattle.step_meaning.proofs.StepsFit.{InCells, ReturnFits, global_cells, StepFits, ItemFits}
 use Rattle.step_meaning.proofs.TypedOperators.{OfType, not_true}
+use Rattle.step_meaning.proofs.FormedFunctions.{formed_function}
 use Rattle.step_meaning.proofs.TypedCalls.{SizesFit, AllCallsKeep, keeps_activation}
 use Rattle.step_meaning.proofs.TypedSizes.{sizes_fit}
 use Rattle.step_meaning.proofs.Kept.{EndsWell, CallGivesFit, CallKeeps}
@@ -63,9 +64,9 @@ module _ (q : Core) (h : IsWellFormed q) (bound : ℕ) where
       is : is_main (Some fn) ≡ true
       is = subst (λ o. is_main o ≡ true) (ap (slice_get q.functions) (sym (eqb-true g q.start s)) ∙ e) h.main
 
-  keeps_body : (call : ℕ → List Value → DirectCall) → AllCallsKeep q bound sizes call → (frames : List Shape) (g : ℕ) (fn : Function) → slice_get q.functions g ≡ Some fn → (g == q.start) ≡ is_empty frames → (body : Option (List Stmt)) → OfBody (BodyFits q fn) body → is_some body ≡ true → (vs : List Value) → InCells (parameter_types fn) vs → CallKeeps q frames (OfType fn.result) (ca.call_body direct q bound call g fn body vs)
-  keeps_body call calls frames g fn e o None b has vs a = false_is_not_true has
-  keeps_body call calls frames g fn e o (Some body) b has vs a = keeps_activation q bound sizes call calls frames g fn e o body vs (some_fits (IsWellFormedFunction q) (slice_get q.functions g) fn e (get_fits (IsWellFormedFunction q) q.functions g h.functions)) b (main_int g fn e) a
+  keeps_body : (call : ℕ → List Value → DirectCall) → AllCallsKeep q bound sizes call → (frames : List Shape) (g : ℕ) (fn : Function) → slice_get q.functions g ≡ Some fn → IsWellFormedFunction q fn → (g == q.start) ≡ is_empty frames → (body : Option (List Stmt)) → OfBody (BodyFits q fn) body → is_some body ≡ true → (vs : List Value) → InCells (parameter_types fn) vs → CallKeeps q frames (OfType fn.result) (ca.call_body direct q bound call g fn body vs)
+  keeps_body call calls frames g fn e formed o None b has vs a = false_is_not_true has
+  keeps_body call calls frames g fn e formed o (Some body) b has vs a = keeps_activation q bound sizes call calls frames g fn e o body vs formed b (main_int g fn e) a
 
   called_fits : (P : Function → Type 0) (g : ℕ) (o : Option Function) → slice_get q.functions g ≡ o → ((fn : Function) → slice_get q.functions g ≡ Some fn → has_body fn ≡ true → (g == q.start) ≡ false → P fn) → WhereSome P (option_and_then (λ f. cond (has_body f && not (g == q.start)) (Some f) None) o)
   called_fits P g None e k = tt
@@ -81,7 +82,7 @@ module _ (q : Core) (h : IsWellFormed q) (bound : ℕ) where
       subst (λ o. CallKeeps q frames (OfType fn.result) (ca.call_of direct q bound (ca.calls direct q bound n) g o vs)) (sym e)
       (keeps_body (ca.calls direct q bound n)
       (λ s frames g. called_fits (λ fn. (vs : List Value) → InCells (parameter_types fn) vs → CallKeeps q (s ∷ frames) (OfType fn.result) (ca.calls direct q bound n g vs)) g (slice_get q.functions g) refl (λ fn e b o vs a. keeps_calls n (s ∷ frames) g fn e o b vs a))
-      frames g fn e o fn.body (some_fits (IsWellFormedFunction q) (slice_get q.functions g) fn e (get_fits (IsWellFormedFunction q) q.functions g h.functions)).body b vs a)
+      frames g fn e (formed_function q h g fn e b) o fn.body (formed_function q h g fn e b).body b vs a)
 
 -- ---- the start
 
@@ -131,7 +132,7 @@ module _ (q : Core) (h : IsWellFormed q) where
   globals_declared (d ∷ ds) (vs ∷ vss) = ap (λ ts. ts ∷ map cells_declared (global_blocks q.layouts ds vss)) (filled_declared (empty_block q.layouts d) vs) ∙ ap (λ ts. cells_declared (empty_block q.layouts d) ∷ ts) (globals_declared ds vss)
 
   start_fits : MemoryFits (global_cells q) [] (start_memory q)
-  start_fits = record { globals_declared = globals_declared q.globals q.initial; frames_declared = refl; globals_fit = blocks_fit 0 q.globals q.initial h.globals h.initial; locals_fit = tt }
+  start_fits = record { globals_declared = globals_declared q.globals q.initial; frames_declared = refl; globals_fit = blocks_fit 0 q.globals q.initial h.globals h.initial; locals_fit = tt; heap_fit = tt }
 
 -- ---- the run
 
@@ -183,7 +184,7 @@ module _ (q : Core) (h : IsWellFormed q) (input : List ℕ) (k : ℕ) where
       by (Some fn) e m = (
         fn,
         left_of_and _ _ (right_of_and _ _ (left_of_and _ _ m)),
-        (keeps_calls q h k k [] q.start fn e (number_same q.start) (right_of_and _ _ m) [] (no_parameters fn (left_of_and _ _ (right_of_and _ _ (right_of_and _ _ (left_of_and _ _ m)))))).by (start_world (start_state q input)) (start_fits q h, tt),
+        (keeps_calls q h k k [] q.start fn e (number_same q.start) (right_of_and _ _ m) [] (no_parameters fn (left_of_and _ _ (right_of_and _ _ (right_of_and _ _ (left_of_and _ _ m)))))).by (start_world (start_state q input)) (start_fits q h, tt, tt),
       )
 
 pub well_formed_faults_halt : WellFormedFaultsHalt

@@ -74,6 +74,7 @@ module _ (q : Core) (f : Function) (frames : List Shape) (here : Here) (call : �
       by None h e = false_is_not_true e
       by (Some u) h e = let l : o < length (object_cells q.layouts u) = there_is_below t (object_cells q.layouts u) o e in omega arith
   init_place shorts names.Global i o t s e = false_is_not_true s
+  init_place shorts names.Heap i o t s e = false_is_not_true s
   init_place shorts names.Register i o t s e = false_is_not_true s
   init_place shorts names.GhostGlobal i o t s e = false_is_not_true s
   init_place shorts names.GhostLocal i o t s e = false_is_not_true s
@@ -111,20 +112,20 @@ module _ (q : Core) (f : Function) (frames : List Shape) (here : Here) (call : �
   keeps_assertion v k p = keeps_bind keeps_get (λ s m. keeps_bind keeps_registers (λ r h. keeps_judge k v (assertion_holds q.layouts here s.memory r s.ghosts p)))
 
   module _ (scalars : ScalarRegisters q f frames here call) (shorts : ShortLocals) (calls : CallsKeep q f frames here call) where
-    keeps_any : (e : Expr) → has_a_type q code e ≡ true → K Always (ex.eval direct call here e)
+    keeps_any : (e : Expr) → has_a_type q code e ≡ true → K Always (ex.eval direct q.layouts call here e)
     keeps_any e h = some_keeps q frames registers here (typing.type_of q code e) _ h (keeps_eval q f frames here call scalars calls e)
 
-    keeps_condition : (e : Expr) → is_condition q code e ≡ true → K Always (ex.eval direct call here e)
+    keeps_condition : (e : Expr) → is_condition q code e ≡ true → K Always (ex.eval direct q.layouts call here e)
     keeps_condition e h = keeps_any e (scalar_is_some q frames registers here (typing.type_of q code e) h)
 
-    keeps_given : (t : CType) (e : Expr) → gives q code t e ≡ true → K (InCell t) (ex.eval direct call here e)
+    keeps_given : (t : CType) (e : Expr) → gives q code t e ≡ true → K (InCell t) (ex.eval direct q.layouts call here e)
     keeps_given t e h = taken_keeps q frames registers here t e (typing.type_of q code e) _ h (keeps_eval q f frames here call scalars calls e) (null_keeps q f frames here call e)
 
-    keeps_when : (t : CType) (o : Option Expr) (d : Direct Completion) → where_there q f (is_condition q code) o ≡ true → K (CompletionFits t true) d → K (CompletionFits t true) (sm.when_test direct (option_map (ex.eval direct call here) o) d)
+    keeps_when : (t : CType) (o : Option Expr) (d : Direct Completion) → where_there q f (is_condition q code) o ≡ true → K (CompletionFits t true) d → K (CompletionFits t true) (sm.when_test direct (option_map (ex.eval direct q.layouts call here) o) d)
     keeps_when t None d h k = k
     keeps_when t (Some e) d h k = keeps_bind (keeps_condition e h) (λ v g. keeps_cond (truth v) k (keeps_pure Broken refl))
 
-    keeps_step : (t : CType) (o : Option Expr) → where_there q f (has_a_type q code) o ≡ true → K (CompletionFits t true) (sm.loop_step direct (option_map (ex.eval direct call here) o))
+    keeps_step : (t : CType) (o : Option Expr) → where_there q f (has_a_type q code) o ≡ true → K (CompletionFits t true) (sm.loop_step direct (option_map (ex.eval direct q.layouts call here) o))
     keeps_step t None h = keeps_pure Next tt
     keeps_step t (Some e) h = keeps_bind (keeps_any e h) (λ v g. keeps_pure Next tt)
 

@@ -25,7 +25,7 @@ use Rattle.step_meaning.specs.ExpressionTypes.{pointer_to}
 use Rattle.step_meaning.specs.Identifiers.{keywords, is_keyword}
 use Rattle.step_meaning.specs.InitialValues.{IsAddressConstant, itself, in_member}
 use Rattle.step_meaning.specs.WellFormed.{IsWellFormed, IsWellFormedFunction}
-use Rattle.step_meaning.proofs.Examples.{int, lit, global, local, load, deref, assign, binary, convert, compare, return}
+use Rattle.step_meaning.proofs.Examples.{declared, int, lit, global, local, load, deref, assign, binary, convert, compare, return}
 
 -- ---- parts of programs
 
@@ -66,6 +66,13 @@ list = record { kind = names.Global; activation = 0; index = 0 }
 abbrev pub through_q : Place_
 through_q = deref (e.Load (local 0) (pointer_to int))
 
+-- void *malloc(unsigned long); void free(void *);
+abbrev pub malloc : Function
+malloc = record { name = codes "malloc"; result = pointer_to type.Void; params = 1; locals = declared (type.Int kind.ULong) ∷ []; registers = []; ghosts = []; body = None }
+
+abbrev pub free : Function
+free = record { name = codes "free"; result = type.Void; params = 1; locals = declared (pointer_to type.Void) ∷ []; registers = []; ghosts = []; body = None }
+
 abbrev pub add : Function
 add = record {
   name = codes "add";
@@ -78,7 +85,7 @@ add = record {
 }
 
 abbrev pub call_add : Expr
-call_add = e.Invoke' 2 (tt ∷ tt ∷ []) (more_of-Expr (e.Load (global 1) (pointer_to int)) (more_of-Expr (convert kind.Char (lit 97)) end_of-Expr))
+call_add = e.Invoke' 4 (tt ∷ tt ∷ []) (more_of-Expr (e.Load (global 1) (pointer_to int)) (more_of-Expr (convert kind.Char (lit 97)) end_of-Expr))
 
 abbrev pub main_with : List Stmt → Function
 main_with body = record { name = codes "main"; result = int; params = 0; locals = named (codes "i") int ∷ []; registers = []; ghosts = []; body = Some body }
@@ -98,8 +105,8 @@ adding = record {
   globals = named (codes "list") node ∷ named (codes "where") (pointer_to int) ∷ [];
   initial = (value.Int (pos 5) ∷ value.Pointer list 0 ∷ []) ∷ (value.Pointer list 0 ∷ []) ∷ [];
   ghosts = [];
-  functions = getchar ∷ putchar ∷ add ∷ main ∷ [];
-  start = 3;
+  functions = getchar ∷ putchar ∷ malloc ∷ free ∷ add ∷ main ∷ [];
+  start = 5;
 }
 
 getchar_fits : IsWellFormedFunction adding getchar
@@ -132,6 +139,8 @@ adding_well_formed = record {
   ghosts = refl;
   getchar = refl;
   putchar = refl;
+  malloc = refl;
+  free = refl;
   main = refl;
   functions = (getchar_fits, (putchar_fits, (add_fits, (main_fits, tt))));
   file_names = refl;

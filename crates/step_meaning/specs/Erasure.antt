@@ -1,5 +1,5 @@
 -- What a run shows outside: its steps, with functions by their names.
--- Memories have the variables of file scope and the locals alone, since registers and ghost variables stand apart from them; so erasure has only the verdicts to drop and the numbers of functions to replace. These numbers may differ between a program and its woven text, which drops unused prototypes.
+-- Memories have the variables of file scope, the locals and the heap blocks alone, since registers and ghost variables stand apart from them; so erasure has only the verdicts to drop and the numbers of functions to replace. These numbers may differ between a program and its woven text, which drops unused prototypes.
 use Rattle.std.specs.Prelude.{◌≡◌, ℕ, List, [], ◌∷◌, map, slice_get, Option, Some, None}
 use Rattle.step_meaning.specs.declared.value.Value.{Value}
 use Rattle.step_meaning.specs.declared.value.RunFault.{RunFault}
@@ -20,6 +20,8 @@ pub data ShownAction : Type 0 where
   Write : Value → Value → ShownAction
   Input : ShownAction
   Output : ℕ → ShownAction
+  Malloc : ℕ → Value → ℕ → ShownAction
+  Free : Value → ShownAction
   Turn : ShownAction
   Halt : RunFault → ShownAction
 
@@ -45,6 +47,8 @@ shown_action q (act.Read p) = Read p
 shown_action q (act.Write p v) = Write p v
 shown_action q act.Input = Input
 shown_action q (act.Output b) = Output b
+shown_action q (act.Malloc n p k) = Malloc n p k
+shown_action q (act.Free p) = Free p
 shown_action q act.Turn = Turn
 shown_action q (act.Halt f) = Halt f
 

@@ -16,7 +16,7 @@ use Rattle.step_meaning.specs.declared.expr.Answer.TheVariants.{Before, After}
 use Rattle.step_meaning.specs.declared.expr.UpdateOp.{UpdateOp}
 use Rattle.step_meaning.specs.declared.expr.UpdateOp.TheVariants.{Integer, Forward, Backward}
 use Rattle.step_meaning.specs.declared.expr.Expr.{Expr, Row_of-Expr, end_of-Expr, more_of-Expr}
-use Rattle.step_meaning.specs.declared.expr.Expr.TheVariants.{Literal, Null, Load, Address, Convert', Unary', Binary', Compare', Move', Difference', Not', Both', Either', Choose', Assign', Update', Invoke', GetChar, PutChar', Discard', Own, Deref', Member', Index'}
+use Rattle.step_meaning.specs.declared.expr.Expr.TheVariants.{Literal, Null, Load, Address, Convert', Unary', Binary', Compare', Move', Difference', Not', Both', Either', Choose', Assign', Update', Invoke', GetChar, PutChar', Malloc', Free', Discard', Own, Deref', Member', Index'}
 use Rattle.step_meaning.specs.declared.expr.Place_.{Place_, end_of-Place_, more_of-Place_}
 use Rattle.step_meaning.specs.declared.program.Layout.{Layout}
 use Rattle.step_meaning.specs.declared.program.Function.{Function}
@@ -26,7 +26,7 @@ use Rattle.step_meaning.specs.Names.{is_register_variable}
 use Rattle.step_meaning.specs.Types.{same_type, where_true}
 use Rattle.step_meaning.specs.Settings.{Setting, variable_type}
 use Rattle.step_meaning.specs.Conversions.{same_int_kind, is_promoted, promoted, common}
-use Rattle.step_meaning.specs.TypeRules.{cells, is_scalar, member_type, element_type}
+use Rattle.step_meaning.specs.TypeRules.{cells, is_scalar, is_spelled, keeps_rules, member_type, element_type}
 
 -- ---- types
 
@@ -172,6 +172,12 @@ is_operation layouts t (Forward size) a = is_some (moved_type layouts size (Some
 is_operation layouts t (Backward size) a = is_some (moved_type layouts size (Some t) a)
 is_operation layouts t u a = false
 
+-- ---- heap blocks
+
+-- the type of the objects of a heap block: complete, and one that a type name spells, which `void` is not
+abbrev pub is_allocated_type : List Layout → CType → Bool
+is_allocated_type layouts t = is_spelled t && keeps_rules layouts t
+
 -- ---- lvalues
 
 abbrev pub pointed_to : Option CType → Option CType
@@ -245,6 +251,10 @@ module _ (q : Core) (g : Setting) where
     type_of (Invoke' f b es) = call_type (called q f) (are_arguments es)
     type_of GetChar = Some (type.Int kind.Int)
     type_of (PutChar' b (more_of-Expr e end_of-Expr)) = logical_type (has_kind kind.Int (type_of e))
+    -- a pointer to the objects that are allocated, whose count is an `unsigned long` (C11 7.22.3.4)
+    type_of (Malloc' b (more_of-Expr e end_of-Expr) t) = where_true (has_kind kind.ULong (type_of e) && is_allocated_type g.layouts t) (pointer_to t)
+    -- a pointer of any type, or a null pointer constant (C11 7.22.3.3)
+    type_of (Free' b (more_of-Expr e end_of-Expr)) = where_true (has_pointer_type (type_of e)) type.Void
     -- a cast to `void` (C11 6.5.4, 2)
     type_of (Discard' b (more_of-Expr e end_of-Expr)) = where_true (is_some (type_of e)) type.Void
 

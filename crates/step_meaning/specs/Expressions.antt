@@ -5,16 +5,18 @@ use Rattle.step_meaning.specs.declared.value.Value.{Value}
 use Rattle.step_meaning.specs.declared.value.Value.TheVariants as value
 use Rattle.step_meaning.specs.declared.value.Action.TheVariants as act
 use Rattle.step_meaning.specs.declared.expr.Expr.{Expr, Row_of-Expr, end_of-Expr, more_of-Expr}
-use Rattle.step_meaning.specs.declared.expr.Expr.TheVariants.{Literal, Null, Load, Address, Convert', Unary', Binary', Compare', Move', Difference', Not', Both', Either', Choose', Assign', Update', Invoke', GetChar, PutChar', Discard', Own, Deref', Member', Index'}
+use Rattle.step_meaning.specs.declared.expr.Expr.TheVariants.{Literal, Null, Load, Address, Convert', Unary', Binary', Compare', Move', Difference', Not', Both', Either', Choose', Assign', Update', Invoke', GetChar, PutChar', Malloc', Free', Discard', Own, Deref', Member', Index'}
 use Rattle.step_meaning.specs.declared.expr.Place_.{Place_, end_of-Place_, more_of-Place_}
+use Rattle.step_meaning.specs.declared.program.Layout.{Layout}
 use Rattle.step_meaning.specs.Numbers.{converted, binary_of, unary_of}
 use Rattle.step_meaning.specs.Names.{truth, of_truth, integer, distance, compared}
 use Rattle.step_meaning.specs.State.{Here, Lvalue, At, designated}
 use Rattle.step_meaning.specs.Flow.{Flow}
+use Rattle.step_meaning.specs.Allocation.{allocate, release}
 use Rattle.step_meaning.specs.Accesses.{checked, load, store, address_of, object_after, as_int, as_truth, move_elements, updated, answer, get_char, put_char}
 
--- `call` is what a call does, of a function by its number with its arguments
-module _ (F : Flow) (call : ℕ → List Value → F.Plain) (here : Here) where
+-- in a program with these structs. `call` is what a call does, of a function by its number with its arguments
+module _ (F : Flow) (layouts : List Layout) (call : ℕ → List Value → F.Plain) (here : Here) where
   abbrev mutual
     pub eval : Expr → F.Does Value
     eval (Literal k z) = F.pure (value.Int z)
@@ -39,6 +41,9 @@ module _ (F : Flow) (call : ℕ → List Value → F.Plain) (here : Here) where
     eval (Invoke' f b es) = F.bind (all es) (λ vs. F.bind (F.emit here (act.Call f)) (λ u. F.through (call f vs)))
     eval GetChar = get_char F here
     eval (PutChar' b (more_of-Expr e end_of-Expr)) = F.bind (eval e) (put_char F here)
+    -- the operand, the step, then the effect
+    eval (Malloc' b (more_of-Expr e end_of-Expr) t) = F.bind (eval e) (allocate F here layouts t)
+    eval (Free' b (more_of-Expr e end_of-Expr)) = F.bind (eval e) (release F here)
     eval (Discard' b (more_of-Expr e end_of-Expr)) = F.bind (eval e) (λ v. F.pure (value.Int (pos 0)))
 
     -- what an lvalue designates

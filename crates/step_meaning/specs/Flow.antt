@@ -28,6 +28,7 @@ pub record Flow : Type 1 where
   pub put_ghosts : Memory → Does (Unit {0})
   pub put_input : List ℕ → Does (Unit {0})
   pub put_made : ℕ → Does (Unit {0})
+  pub put_allocated : ℕ → Does (Unit {0})
   -- the registers of the activation
   pub registers : Does Registers
   pub put_registers : Registers → Does (Unit {0})
@@ -69,6 +70,7 @@ resting =
       put_ghosts = λ m. λ rest s r. rest tt (record s { ghosts = m }) r;
       put_input = λ bs. λ rest s r. rest tt (record s { input = bs }) r;
       put_made = λ n. λ rest s r. rest tt (record s { made = n }) r;
+      put_allocated = λ n. λ rest s r. rest tt (record s { allocated = n }) r;
       registers = λ rest s r. rest r s r;
       put_registers = λ q. λ rest s r. rest tt s q;
       emit = λ here a. λ rest s r. Then (step_by here a s.memory) (rest tt s r);
@@ -84,11 +86,12 @@ pub record World : Type 0 where
   pub ghosts : Memory
   pub input : List ℕ
   pub made : ℕ
+  pub allocated : ℕ
   -- the newest first
   pub log : List Item
 
 abbrev pub state_of : World → State
-state_of w = record { memory = w.memory; ghosts = w.ghosts; input = w.input; made = w.made }
+state_of w = record { memory = w.memory; ghosts = w.ghosts; input = w.input; made = w.made; allocated = w.allocated }
 
 -- a result, an end of the run, or the end that the misuse of a register is
 pub data Gives (A : Type 0) : Type 0 where
@@ -136,6 +139,7 @@ direct =
       put_ghosts = λ m. λ w r. Done tt (record w { ghosts = m }) r;
       put_input = λ bs. λ w r. Done tt (record w { input = bs }) r;
       put_made = λ n. λ w r. Done tt (record w { made = n }) r;
+      put_allocated = λ n. λ w r. Done tt (record w { allocated = n }) r;
       registers = λ w r. Done r w r;
       put_registers = λ q. λ w r. Done tt w q;
       emit = λ here a. λ w r. Done tt (record w { log = step_by here a w.memory ∷ w.log }) r;

@@ -32,6 +32,8 @@ fits_action place.Write (act.Write p v) = true
 fits_action place.Call (act.Call g) = true
 fits_action place.Call act.Input = true
 fits_action place.Call (act.Output b) = true
+fits_action place.Call (act.Malloc n p k) = true
+fits_action place.Call (act.Free p) = true
 fits_action place.Changed _ = true
 fits_action _ _ = false
 
@@ -67,7 +69,7 @@ verdicts_of_code s (_ ∷ code) ghosts = verdicts_of_code s code ghosts
 module _ (q : Core) (h : Hooks) where
   -- the ghost variables of file scope have the numbers from `first` on; those below are not the hooks' own, and have no cells
   abbrev pub start_cells : Memory
-  start_cells = record { globals = replicate h.first [] ++ map (ghost_block q.layouts) h.globals; frames = [] }
+  start_cells = record { globals = replicate h.first [] ++ map (ghost_block q.layouts) h.globals; frames = []; heap = [] }
 
   abbrev pub unset_saves : Step → Frame
   unset_saves s = record { activation = s.activation; locals = map (empty_block q.layouts) (saves_of h.points s.function) }

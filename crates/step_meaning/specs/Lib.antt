@@ -11,6 +11,7 @@ pub mod Predicates
 pub mod Ghosts
 pub mod Flow
 pub mod Accesses
+pub mod Allocation
 pub mod Expressions
 pub mod Statements
 pub mod Calls
@@ -28,6 +29,7 @@ pub mod ExpressionTypes
 pub mod StatementRules
 pub mod InitialValues
 pub mod Identifiers
+pub mod Library
 pub mod WellFormed
 pub mod Sizes
 pub mod Normal

@@ -2,25 +2,31 @@
 -- `IsOutcome` says what the outcome is; `outcome` computes it along the run. That the one is the other is a law.
 use Rattle.std.specs.Prelude.{◌≡◌, ℕ, zero, suc, ◌+◌, ◌/◌, ◌≤◌, ◌<◌, max, Bool, true, false, ◌&&◌, ◌||◌, not, cond, ◌==◌, nat_lt, IsTrue, IsFalse, ℤ, List, sum_by, length, slice_get, Option, Some, None}
 use Rattle.step_meaning.specs.declared.value.Action.{Action}
-use Rattle.step_meaning.specs.declared.value.Action.TheVariants.{Enter}
+use Rattle.step_meaning.specs.declared.value.Action.TheVariants.{Enter, Malloc}
 use Rattle.step_meaning.specs.declared.value.RunFault.{RunFault}
 use Rattle.step_meaning.specs.declared.program.Core.{Core}
-use Rattle.step_meaning.specs.Memory.{Memory, Frame, Block}
+use Rattle.step_meaning.specs.Memory.{Memory, Frame, HeapBlock, Block}
 use Rattle.step_meaning.specs.Steps.{Step, Made, Judged, End, Exit, Fault, More, Trace, Stop, Then, steps, end}
 use Rattle.step_meaning.specs.Runs.{run, start_memory}
 
 -- ---- chunks of 16 cells
 
--- the larger of 1 and the variable's cells divided by 16, rounded up
+-- those of a variable or heap block with so many cells: the larger of 1 and the cells divided by 16, rounded up
+abbrev pub chunks_for : ℕ → ℕ
+chunks_for n = max 1 ((n + 15) / 16)
+
 abbrev pub chunks_of : Block → ℕ
-chunks_of b = max 1 ((length b + 15) / 16)
+chunks_of b = chunks_for (length b)
 
 abbrev pub frame_chunks : Frame → ℕ
 frame_chunks f = sum_by chunks_of f.locals
 
--- those of all variables of the memory
+abbrev pub heap_chunks : HeapBlock → ℕ
+heap_chunks b = chunks_of b.cells
+
+-- those of all variables and heap blocks of the memory
 abbrev pub chunks : Memory → ℕ
-chunks memory = sum_by chunks_of memory.globals + sum_by frame_chunks memory.frames
+chunks memory = sum_by chunks_of memory.globals + (sum_by frame_chunks memory.frames + sum_by heap_chunks memory.heap)
 
 -- ---- limits at a step
 
@@ -32,9 +38,14 @@ is_enter _ = false
 abbrev pub passes_calls : ℕ → Step → Bool
 passes_calls d s = is_enter s.action && nat_lt d (length s.memory.frames)
 
--- an Enter whose memory has more than c chunks
+-- the memory of an Enter, which has the new activation's variables, has more than c chunks, or that of a Malloc with its new block
+abbrev pub are_too_many : ℕ → Action → Memory → Bool
+are_too_many c (Enter g vs) memory = nat_lt c (chunks memory)
+are_too_many c (Malloc n p (suc k)) memory = nat_lt c (chunks memory + chunks_for (suc k))
+are_too_many c _ memory = false
+
 abbrev pub passes_cells : ℕ → Step → Bool
-passes_cells c s = is_enter s.action && nat_lt c (chunks s.memory)
+passes_cells c s = are_too_many c s.action s.memory
 
 -- ---- the outcome
 
@@ -68,7 +79,7 @@ module _ (c d n : ℕ) where
     pub exist : m ≤ length ss
     pub within : (i : ℕ) (s : Step) → i < m → slice_get ss i ≡ Some s → IsFalse (passes_calls d s || passes_cells c s)
 
-  -- the end after m steps. Where step m ends the run, it is the run's own; else, where m is n, the steps are spent; else step m + 1 is an Enter that passes a limit, that of the activations or else that of the chunks
+  -- the end after m steps. Where step m ends the run, it is the run's own; else, where m is n, the steps are spent; else step m + 1 passes a limit: an Enter that of the activations, or else an Enter or a Malloc that of the chunks
   abbrev pub end_after : Trace → ℕ → LimitedEnd
   end_after t m = cond (m == length (steps t)) (own_end (end t)) (cond (m == n) Spent (cond (stops_calls d (slice_get (steps t) m)) CallsFull CellsFull))
 
@@ -117,5 +128,5 @@ module _ (c d n : ℕ) (t : Trace) (m : ℕ) where
 pub record OutcomeComputed : Type 0 where
   pub is_outcome : (q : Core) (input : List ℕ) (n c d : ℕ) → IsOutcome q input n c d (outcome q input n c d)
   pub unique : (q : Core) (input : List ℕ) (n c d : ℕ) (o : Outcome) → IsOutcome q input n c d o → o ≡ outcome q input n c d
-  -- where the run begins, it ends by its own end after its last step, with n steps made and one more to come, or before an Enter that passes a limit
+  -- where the run begins, it ends by its own end after its last step, with n steps made and one more to come, or before an Enter or a Malloc that passes a limit
   pub ends_by : (q : Core) (input : List ℕ) (n c d : ℕ) → IsFalse (nat_lt c (chunks (start_memory q))) → EndsBy c d n (run q input (n + 1)) (outcome q input n c d).made (outcome q input n c d).end

@@ -1,7 +1,7 @@
--- Memory (C11 6.2.4, 6.2.6.1, 6.5, 7): the live variables, each with its cells, and the accesses that are allowed.
--- A memory is a finite map from names to lists of cells: `block` is that map. A variable of file scope is live in the whole run, a parameter or local from its activation's start to its end.
--- Two such maps are kept apart, that of the program's own variables and that of the ghost variables; both have this form. Registers are in neither.
-use Rattle.std.specs.Prelude.{ℕ, zero, suc, if◌then◌else◌, ◌==◌, List, [], ◌∷◌, map, length, slice_get, Option, Some, None, option_and_then, option_map}
+-- Memory (C11 6.2.4, 6.2.6.1, 6.5, 7; 7.22.3): the live variables and heap blocks, each with its cells, and the accesses that are allowed.
+-- A memory is a finite map from names to lists of cells: `block` is that map. A variable of file scope is live in the whole run, a parameter or local from its activation's start to its end, a heap block from its `malloc` to its `free`.
+-- Two such maps are kept apart, that of the program's own variables and heap blocks and that of the ghost variables; both have this form. Registers are in neither.
+use Rattle.std.specs.Prelude.{ℕ, zero, suc, Bool, ◌&&◌, if◌then◌else◌, ◌==◌, List, [], ◌∷◌, map, length, slice_get, Option, Some, None, option_and_then, option_map, is_some}
 use Rattle.step_meaning.specs.declared.value.CType.{CType}
 use Rattle.step_meaning.specs.declared.value.NameKind.{NameKind}
 use Rattle.step_meaning.specs.declared.value.NameKind.TheVariants as names
@@ -12,6 +12,7 @@ use Rattle.step_meaning.specs.declared.value.Cell.{Cell}
 use Rattle.step_meaning.specs.declared.value.Cell.TheVariants.{Nothing, Holds}
 use Rattle.step_meaning.specs.declared.program.Layout.{Layout}
 use Rattle.step_meaning.specs.declared.program.Declared.{Declared}
+use Rattle.step_meaning.specs.Names.{same_kind}
 use Rattle.step_meaning.specs.Types.{same_type, object_cells}
 
 -- ---- blocks
@@ -25,8 +26,12 @@ pub record Slot : Type 0 where
 abbrev pub Block : Type 0
 Block = List Slot
 
+-- cells of these types that hold nothing
+abbrev pub unset_cells : List CType → Block
+unset_cells ts = map (λ t. record { declared = t; cell = Nothing }) ts
+
 abbrev pub empty_block : List Layout → Declared → Block
-empty_block layouts d = map (λ t. record { declared = t; cell = Nothing }) (object_cells layouts d.ctype)
+empty_block layouts d = unset_cells (object_cells layouts d.ctype)
 
 -- the block with these values in its first cells
 abbrev pub filled : Block → List Value → Block
@@ -41,10 +46,17 @@ pub record Frame : Type 0 where
   pub activation : ℕ
   pub locals : List Block
 
+-- a live block of the heap, with its number
+pub record HeapBlock : Type 0 where
+  pub number : ℕ
+  pub cells : Block
+
 pub record Memory : Type 0 where
   pub globals : List Block
   -- the innermost activation first
   pub frames : List Frame
+  -- the newest block first
+  pub heap : List HeapBlock
 
 abbrev pub frame_of : ℕ → List Frame → Option Frame
 frame_of a [] = None
@@ -59,20 +71,30 @@ file_block memory (suc a) i = None
 abbrev pub frame_block : Memory → ℕ → ℕ → Option Block
 frame_block memory a i = option_and_then (λ f. slice_get f.locals i) (frame_of a memory.frames)
 
+abbrev pub block_of : ℕ → List HeapBlock → Option Block
+block_of n [] = None
+block_of n (b ∷ bs) = if b.number == n then Some b.cells else block_of n bs
+
+-- the heap block with number n
+abbrev pub heap_block : Memory → ℕ → ℕ → Option Block
+heap_block memory n zero = block_of n memory.heap
+heap_block memory n (suc i) = None
+
 abbrev pub block_in : Memory → NameKind → ℕ → ℕ → Option Block
 block_in memory names.Global a i = file_block memory a i
 block_in memory names.Local a i = frame_block memory a i
+block_in memory names.Heap a i = heap_block memory a i
 block_in memory _ a i = None
 
--- the variable's cells, and none where it isn't live
+-- the cells of a variable or heap block, and none where it isn't live
 abbrev pub block : Memory → Name → Option Block
 block memory n = block_in memory n.kind n.activation n.index
 
--- the number of cells of the variable, and none where it isn't live
+-- their number, and none where it isn't live
 abbrev pub room : Memory → Name → Option ℕ
 room memory n = option_map length (block memory n)
 
--- the same for the variable that a pointer names
+-- the same for what a pointer names
 abbrev pub room_at : Memory → Value → Option ℕ
 room_at memory (value.Pointer n o) = room memory n
 room_at memory _ = None
@@ -88,7 +110,7 @@ abbrev pub slot_at : Option Block → ℕ → Option Slot
 slot_at b o = option_and_then (λ b. slice_get b o) b
 
 -- the cell that an access at a pointer reaches, and none where the access isn't allowed:
--- the variable is live, the offset is below its cells, and the cell has the accessed type
+-- the variable or block is live, the offset is below its cells, and the cell has the accessed type
 abbrev pub reached : Memory → Value → CType → Option Cell
 reached memory (value.Pointer n o) t = typed (slot_at (block memory n) o) t
 reached memory _ t = None
@@ -109,16 +131,42 @@ abbrev pub at_frame : (List Block → List Block) → ℕ → List Frame → Lis
 at_frame f a [] = []
 at_frame f a (r ∷ rs) = if r.activation == a then record r { locals = f r.locals } ∷ rs else r ∷ at_frame f a rs
 
-abbrev pub changed : Memory → NameKind → ℕ → (List Block → List Block) → Memory
-changed memory names.Global a f = record memory { globals = f memory.globals }
-changed memory names.Local a f = record memory { frames = at_frame f a memory.frames }
-changed memory _ a f = memory
+abbrev pub at_heap : (Block → Block) → ℕ → List HeapBlock → List HeapBlock
+at_heap f n [] = []
+at_heap f n (b ∷ bs) = if b.number == n then record b { cells = f b.cells } ∷ bs else b ∷ at_heap f n bs
+
+-- the memory with the cells of one variable or heap block changed
+abbrev pub changed : Memory → NameKind → ℕ → ℕ → (Block → Block) → Memory
+changed memory names.Global a i f = record memory { globals = at_block f i memory.globals }
+changed memory names.Local a i f = record memory { frames = at_frame (at_block f i) a memory.frames }
+changed memory names.Heap a zero f = record memory { heap = at_heap f a memory.heap }
+changed memory _ a i f = memory
 
 -- the memory with one cell changed
 abbrev pub put : Memory → Name → ℕ → Cell → Memory
-put memory n o c = changed memory n.kind n.activation (at_block (set_cell c o) n.index)
+put memory n o c = changed memory n.kind n.activation n.index (set_cell c o)
 
 -- the memory with the cell changed that a pointer names
 abbrev pub stored : Memory → Value → Cell → Memory
 stored memory (value.Pointer n o) c = put memory n o c
 stored memory _ c = memory
+
+-- ---- the heap (C11 7.22.3)
+
+-- the memory with one more block, which has this number
+abbrev pub with_block : ℕ → Block → Memory → Memory
+with_block n b memory = record memory { heap = record { number = n; cells = b } ∷ memory.heap }
+
+abbrev pub without : ℕ → List HeapBlock → List HeapBlock
+without n [] = []
+without n (b ∷ bs) = if b.number == n then bs else b ∷ without n bs
+
+-- offset 0 of a live heap block
+abbrev pub begins_block : Memory → Name → ℕ → Bool
+begins_block memory n o = same_kind n.kind names.Heap && (o == 0 && is_some (block memory n))
+
+-- the memory after `free` of this pointer: null does nothing, and at offset 0 of a live heap block the block ends. None where the pointer is neither (C11 7.22.3.3)
+abbrev pub freed : Memory → Value → Option Memory
+freed memory value.Null = Some memory
+freed memory (value.Pointer n o) = if begins_block memory n o then Some (record memory { heap = without n.activation memory.heap }) else None
+freed memory (value.Int z) = None

@@ -1,5 +1,5 @@
--- Names of variables, and scalar values: truth (C11 6.8.4.1), pointer arithmetic (C11 6.5.6) and comparison (C11 6.5.8, 6.5.9).
--- A pointer is the name of a variable with an offset that counts cells, or null. Names don't come back, so a pointer to a variable whose lifetime has ended names none.
+-- Names of variables and heap blocks, and scalar values: truth (C11 6.8.4.1), pointer arithmetic (C11 6.5.6) and comparison (C11 6.5.8, 6.5.9).
+-- A pointer is the name of a variable or heap block with an offset that counts cells, or null. Names don't come back, so a pointer to one whose lifetime has ended names none.
 use Rattle.std.specs.Prelude.{ℕ, zero, Bool, true, false, ◌&&◌, cond, if◌then◌else◌, nat_le, ◌==◌, ℤ, pos, negsuc, ◌+ℤ◌, ◌-ℤ◌, int_div, int_rem, Option, Some, None, Ok, Err}
 use Rattle.step_meaning.specs.declared.value.NameKind.{NameKind}
 use Rattle.step_meaning.specs.declared.value.NameKind.TheVariants as names
@@ -17,6 +17,7 @@ use Rattle.step_meaning.specs.Numbers.{Checked, compared_integers, is_zero}
 abbrev pub same_kind : NameKind → NameKind → Bool
 same_kind names.Global names.Global = true
 same_kind names.Local names.Local = true
+same_kind names.Heap names.Heap = true
 same_kind names.Register names.Register = true
 same_kind names.GhostGlobal names.GhostGlobal = true
 same_kind names.GhostLocal names.GhostLocal = true
@@ -38,6 +39,10 @@ has_file_scope _ = false
 -- the name of a variable of the text in the activation with this number
 abbrev pub name_in : ℕ → Variable → Name
 name_in activation v = record { kind = v.kind; activation = cond (has_file_scope v.kind) 0 activation; index = v.index }
+
+-- the heap block with this number
+abbrev pub heap_name : ℕ → Name
+heap_name b = record { kind = names.Heap; activation = b; index = 0 }
 
 -- ---- values
 

@@ -1,8 +1,8 @@
--- Programs in normal form: each statement makes at most one access, call, input or output, and the parts of an expression are kept in registers.
+-- Programs in normal form: each statement makes at most one access or call, those of `getchar`, `putchar`, `malloc` and `free` included, and the parts of an expression are kept in registers.
 use Rattle.std.specs.Prelude.{ℕ, suc, Bool, true, false, ◌&&◌, ◌||◌, not, ◌==◌, pos, List, [], ◌∷◌, Option, Some, None, IsTrue}
 use Rattle.step_meaning.specs.declared.value.IntKind.TheVariants as kind
 use Rattle.step_meaning.specs.declared.expr.Expr.{Expr, Row_of-Expr, end_of-Expr, more_of-Expr}
-use Rattle.step_meaning.specs.declared.expr.Expr.TheVariants.{Literal, Null, Load, Address, Convert', Unary', Binary', Compare', Move', Difference', Not', Both', Either', Choose', Assign', Update', Invoke', GetChar, PutChar', Discard', Own, Deref', Member', Index'}
+use Rattle.step_meaning.specs.declared.expr.Expr.TheVariants.{Literal, Null, Load, Address, Convert', Unary', Binary', Compare', Move', Difference', Not', Both', Either', Choose', Assign', Update', Invoke', GetChar, PutChar', Malloc', Free', Discard', Own, Deref', Member', Index'}
 use Rattle.step_meaning.specs.declared.expr.Place_.{Place_, end_of-Place_, more_of-Place_}
 use Rattle.step_meaning.specs.declared.stmt.Stmt.{Stmt, Row_of-Stmt, end_of-Stmt, more_of-Stmt}
 use Rattle.step_meaning.specs.declared.stmt.Stmt.TheVariants.{Empty, Eval, Init, Block', If', While', Do', For', Break, Continue, Return, Ghost, Assert}
@@ -37,7 +37,7 @@ are_operands (more_of-Expr e more) = is_operand e && are_operands more
 -- ---- expressions
 
 abbrev mutual
-  -- without an access, call, input or output: registers alone are read and written
+  -- without an access or a call, those of the library included: registers alone are read and written
   pub is_silent : Expr → Bool
   is_silent (Literal k z) = true
   is_silent Null = true
@@ -58,6 +58,8 @@ abbrev mutual
   is_silent (Invoke' f b es) = false
   is_silent GetChar = false
   is_silent (PutChar' b (more_of-Expr e end_of-Expr)) = false
+  is_silent (Malloc' b (more_of-Expr e end_of-Expr) t) = false
+  is_silent (Free' b (more_of-Expr e end_of-Expr)) = false
   is_silent (Discard' b (more_of-Expr e end_of-Expr)) = is_silent e
 
   -- an lvalue whose address is computed so
@@ -72,11 +74,13 @@ abbrev pub is_place_value : Expr → Bool
 is_place_value (Load p t) = is_plain_place p
 is_place_value _ = false
 
--- one call, input or output of operands
+-- one call of operands, those of the library included
 abbrev pub is_single_call : Expr → Bool
 is_single_call (Invoke' f b es) = are_operands es
 is_single_call GetChar = true
 is_single_call (PutChar' b (more_of-Expr e end_of-Expr)) = is_operand e
+is_single_call (Malloc' b (more_of-Expr e end_of-Expr) t) = is_operand e
+is_single_call (Free' b (more_of-Expr e end_of-Expr)) = is_operand e
 is_single_call _ = false
 
 -- a register takes an expression without an access, the value at a place, or a call; a place takes an operand; or a call alone

@@ -1,7 +1,8 @@
 -- Programs that are written as texts which read back: well-formed ones in normal form, whose parts are within the limits of what is read.
 use Rattle.std.specs.Prelude.{Bool, true, ◌&&◌, nat_le, List, Option, Some, None, IsTrue}
 use Rattle.std.specs.List.{list_all}
-use Rattle.step_meaning.specs.declared.expr.Expr.{Expr}
+use Rattle.step_meaning.specs.declared.expr.Expr.{Expr, end_of-Expr, more_of-Expr}
+use Rattle.step_meaning.specs.declared.expr.Expr.TheVariants.{Malloc', Assign'}
 use Rattle.step_meaning.specs.declared.stmt.GhostStmt.{GhostStmt, Row_of-GhostStmt, end_of-GhostStmt, more_of-GhostStmt}
 use Rattle.step_meaning.specs.declared.stmt.GhostStmt.TheVariants.{Set, When'}
 use Rattle.step_meaning.specs.declared.stmt.Stmt.{Stmt, Row_of-Stmt, end_of-Stmt, more_of-Stmt}
@@ -18,9 +19,15 @@ use Rattle.step_meaning.specs.TermSizes.{predicate_nodes, term_nodes, ghost_dept
 
 -- ---- expressions and annotations
 
+-- the type that a call of `malloc` names nests at most 100 deep. In normal form the call is the whole expression, or is what a register takes
+abbrev pub allocates_small_type : Expr → Bool
+allocates_small_type (Malloc' b e t) = nat_le (type_depth t) 100
+allocates_small_type (Assign' p u b (more_of-Expr (Malloc' c e t) end_of-Expr)) = nat_le (type_depth t) 100
+allocates_small_type e = true
+
 -- an expression has at most 1,200 nodes and depth 64
 abbrev pub is_small : Expr → Bool
-is_small e = nat_le (nodes e) 1200 && nat_le (depth e) 64
+is_small e = nat_le (nodes e) 1200 && (nat_le (depth e) 64 && allocates_small_type e)
 
 abbrev pub is_small_or_nothing : Option Expr → Bool
 is_small_or_nothing None = true
@@ -84,7 +91,7 @@ is_small_body (Some ss) = list_all is_small_statement ss
 abbrev pub have_small_types : List Declared → Bool
 have_small_types ds = list_all (λ d. nat_le (type_depth d.ctype) 100) ds
 
--- the types that a function declares. Each type in its code is a part of a declared one
+-- the types that a function declares. Each type in its code is a part of a declared one, or is named by a call of `malloc`
 abbrev pub declares_small_types : Function → Bool
 declares_small_types f = nat_le (type_depth f.result) 100 && (have_small_types f.locals && (have_small_types f.registers && have_small_types f.ghosts))
 

@@ -23,7 +23,7 @@ global_blocks layouts (d ∷ ds) [] = empty_block layouts d ∷ global_blocks la
 global_blocks layouts (d ∷ ds) (vs ∷ vss) = filled (empty_block layouts d) vs ∷ global_blocks layouts ds vss
 
 abbrev pub start_memory : Core → Memory
-start_memory q = record { globals = global_blocks q.layouts q.globals q.initial; frames = [] }
+start_memory q = record { globals = global_blocks q.layouts q.globals q.initial; frames = []; heap = [] }
 
 -- a ghost variable of file scope starts with 0 or null
 abbrev pub ghost_start : CType → Value
@@ -34,10 +34,10 @@ abbrev pub ghost_block : List Layout → Declared → Block
 ghost_block layouts d = filled (empty_block layouts d) (ghost_start d.ctype ∷ [])
 
 abbrev pub start_ghosts : Core → Memory
-start_ghosts q = record { globals = map (ghost_block q.layouts) q.ghosts; frames = [] }
+start_ghosts q = record { globals = map (ghost_block q.layouts) q.ghosts; frames = []; heap = [] }
 
 abbrev pub start_state : Core → List ℕ → State
-start_state q input = record { memory = start_memory q; ghosts = start_ghosts q; input = input; made = 0 }
+start_state q input = record { memory = start_memory q; ghosts = start_ghosts q; input = input; made = 0; allocated = 0 }
 
 -- ---- the run
 
@@ -62,7 +62,7 @@ logged_by (Returned v w) = record { log = w.log; ends = exit_of v }
 logged_by (Ended e l) = record { log = l; ends = e }
 
 abbrev pub start_world : State → World
-start_world s = record { memory = s.memory; ghosts = s.ghosts; input = s.input; made = s.made; log = [] }
+start_world s = record { memory = s.memory; ghosts = s.ghosts; input = s.input; made = s.made; allocated = s.allocated; log = [] }
 
 abbrev pub direct_run : Core → List ℕ → ℕ → Logged
 direct_run q input k = logged_by (calls direct q k k q.start [] (start_world (start_state q input)))

@@ -1,5 +1,5 @@
 -- What is asked of a scope: the names in view with their variables and types, and the core whose functions and structs they are beside (C11 6.2.1).
-use Rattle.std.specs.Prelude.{◌≢◌, ◌⊎◌, ◌≡◌, ℕ, ◌≤◌, List, map, length, take, IsTrue}
+use Rattle.std.specs.Prelude.{◌≢◌, ◌⊎◌, ◌≡◌, ℕ, ◌≤◌, Bool, ◌||◌, List, map, length, take, IsTrue}
 use Rattle.std.specs.List.{AllByRecursion, AllPairs, list_all}
 use Rattle.step_meaning.specs.declared.value.CType.{CType}
 use Rattle.step_meaning.specs.declared.value.CType.TheVariants.{Void}
@@ -8,6 +8,8 @@ use Rattle.step_meaning.specs.declared.program.Core.{Core}
 use Rattle.step_meaning.specs.declared.program.Function.{Function}
 use Rattle.step_meaning.specs.TypeRules.{are_layouts, keeps_rules}
 use Rattle.step_meaning.specs.Identifiers.{are_distinct}
+use Rattle.step_meaning.specs.Types.{same_type}
+use Rattle.step_meaning.specs.Library.{void_pointer}
 
 -- a name in view: its bytes, the variable that it names, and the variable's type
 pub record Entry : Type 0 where
@@ -15,12 +17,16 @@ pub record Entry : Type 0 where
   pub variable : Variable
   pub ctype : CType
 
-abbrev pub ParametersKeepRules : Core → Function → Type 0
-ParametersKeepRules q f = AllByRecursion (λ d. IsTrue (keeps_rules q.layouts d.ctype)) (take f.params f.locals)
+-- a type that keeps the rules, or a pointer to `void`
+abbrev pub may_be_passed : Core → CType → Bool
+may_be_passed q t = keeps_rules q.layouts t || same_type t void_pointer
 
--- a result is `void` or has a type that keeps the rules
+abbrev pub ParametersKeepRules : Core → Function → Type 0
+ParametersKeepRules q f = AllByRecursion (λ d. IsTrue (may_be_passed q d.ctype)) (take f.params f.locals)
+
+-- a result is `void` or has such a type
 abbrev pub ResultKeepsRules : Core → Function → Type 0
-ResultKeepsRules q f = (f.result ≡ Void) ⊎ IsTrue (keeps_rules q.layouts f.result)
+ResultKeepsRules q f = (f.result ≡ Void) ⊎ IsTrue (may_be_passed q f.result)
 
 pub record IsScope (entries : List Entry) (q : Core) : Type 0 where
   -- names are distinct. Two of them may name one variable
@@ -30,7 +36,7 @@ pub record IsScope (entries : List Entry) (q : Core) : Type 0 where
   -- tags are distinct, and so are the members of one struct
   pub tags : IsTrue (are_distinct (map (λ l. l.tag) q.layouts))
   pub members : IsTrue (list_all (λ l. are_distinct (map (λ d. d.name) l.members)) q.layouts)
-  -- types keep the rules, and name no structs but those of the core
+  -- types keep the rules, and name no structs but those of the core; parameters and results may be a pointer to `void`, as `malloc` and `free` have it
   pub entry_types : AllByRecursion (λ e. IsTrue (keeps_rules q.layouts e.ctype)) entries
   pub parameter_types : AllByRecursion (ParametersKeepRules q) q.functions
   pub result_types : AllByRecursion (ResultKeepsRules q) q.functions

@@ -23,6 +23,8 @@ pub record Setting : Type 0 where
 abbrev pub variables : Setting → NameKind → List Declared
 variables g names.Global = g.globals
 variables g names.Local = g.locals
+-- no variable of the text is a heap block
+variables g names.Heap = []
 variables g names.Register = g.registers
 variables g names.GhostGlobal = g.file_ghosts
 variables g names.GhostLocal = g.ghosts

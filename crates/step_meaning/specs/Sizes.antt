@@ -1,7 +1,7 @@
 -- How large the parts of a program are. The nodes of an expression are its subexpressions and lvalues, itself included; its depth is the greatest number of them that stand within one another. A statement nests as deep as the greatest number of statements within one another.
 use Rattle.std.specs.Prelude.{ℕ, ◌+◌, max}
 use Rattle.step_meaning.specs.declared.expr.Expr.{Expr, Row_of-Expr, end_of-Expr, more_of-Expr}
-use Rattle.step_meaning.specs.declared.expr.Expr.TheVariants.{Literal, Null, Load, Address, Convert', Unary', Binary', Compare', Move', Difference', Not', Both', Either', Choose', Assign', Update', Invoke', GetChar, PutChar', Discard', Own, Deref', Member', Index'}
+use Rattle.step_meaning.specs.declared.expr.Expr.TheVariants.{Literal, Null, Load, Address, Convert', Unary', Binary', Compare', Move', Difference', Not', Both', Either', Choose', Assign', Update', Invoke', GetChar, PutChar', Malloc', Free', Discard', Own, Deref', Member', Index'}
 use Rattle.step_meaning.specs.declared.expr.Place_.{Place_, end_of-Place_, more_of-Place_}
 use Rattle.step_meaning.specs.declared.stmt.Stmt.{Stmt, Row_of-Stmt, end_of-Stmt, more_of-Stmt}
 use Rattle.step_meaning.specs.declared.stmt.Stmt.TheVariants.{Block', If', While', Do', For'}
@@ -30,6 +30,8 @@ abbrev mutual
   nodes (Invoke' f b es) = 1 + row_nodes es
   nodes GetChar = 1
   nodes (PutChar' b (more_of-Expr e end_of-Expr)) = 1 + nodes e
+  nodes (Malloc' b (more_of-Expr e end_of-Expr) t) = 1 + nodes e
+  nodes (Free' b (more_of-Expr e end_of-Expr)) = 1 + nodes e
   nodes (Discard' b (more_of-Expr e end_of-Expr)) = 1 + nodes e
 
   -- of an lvalue
@@ -66,6 +68,8 @@ abbrev mutual
   depth (Invoke' f b es) = 1 + row_depth es
   depth GetChar = 1
   depth (PutChar' b (more_of-Expr e end_of-Expr)) = 1 + depth e
+  depth (Malloc' b (more_of-Expr e end_of-Expr) t) = 1 + depth e
+  depth (Free' b (more_of-Expr e end_of-Expr)) = 1 + depth e
   depth (Discard' b (more_of-Expr e end_of-Expr)) = 1 + depth e
 
   pub place_depth : Place_ → ℕ

@@ -19,6 +19,8 @@ pub record State : Type 0 where
   pub input : List ℕ
   -- how many activations were made
   pub made : ℕ
+  -- how many heap blocks were made
+  pub allocated : ℕ
 
 -- who acts: a function, and the number of its activation
 pub record Here : Type 0 where

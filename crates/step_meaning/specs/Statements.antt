@@ -74,18 +74,18 @@ module _ (F : Flow) where
   module _ (layouts : List Layout) (call : ℕ → List Value → F.Plain) (here : Here) (bound : ℕ) where
     abbrev pub exec_return : Option Expr → F.Does Completion
     exec_return None = F.pure (Returned None)
-    exec_return (Some e) = F.bind (eval F call here e) (λ v. F.pure (Returned (Some v)))
+    exec_return (Some e) = F.bind (eval F layouts call here e) (λ v. F.pure (Returned (Some v)))
 
     abbrev mutual
       pub exec : Stmt → F.Does Completion
       exec Empty = F.pure Next
-      exec (Eval e) = F.bind (eval F call here e) (λ v. F.pure Next)
-      exec (Init v o t e) = F.bind (eval F call here e) (λ w. F.bind (store F here t (designated here.activation v o) w) (λ written. F.pure Next))
+      exec (Eval e) = F.bind (eval F layouts call here e) (λ v. F.pure Next)
+      exec (Init v o t e) = F.bind (eval F layouts call here e) (λ w. F.bind (store F here t (designated here.activation v o) w) (λ written. F.pure Next))
       exec (Block' b ss) = exec_row ss
-      exec (If' e b (more_of-Stmt s end_of-Stmt) c (more_of-Stmt u end_of-Stmt)) = F.bind (eval F call here e) (λ v. cond (truth v) (exec s) (exec u))
-      exec (While' e b (more_of-Stmt s end_of-Stmt)) = turns here (when_test (Some (eval F call here e)) (exec s)) bound
-      exec (Do' b (more_of-Stmt s end_of-Stmt) e) = turns here (F.bind (exec s) (at_turn_end (when_test (Some (eval F call here e)) (F.pure Next)))) bound
-      exec (For' test step b (more_of-Stmt s end_of-Stmt)) = turns here (when_test (option_map (eval F call here) test) (F.bind (exec s) (at_turn_end (loop_step (option_map (eval F call here) step))))) bound
+      exec (If' e b (more_of-Stmt s end_of-Stmt) c (more_of-Stmt u end_of-Stmt)) = F.bind (eval F layouts call here e) (λ v. cond (truth v) (exec s) (exec u))
+      exec (While' e b (more_of-Stmt s end_of-Stmt)) = turns here (when_test (Some (eval F layouts call here e)) (exec s)) bound
+      exec (Do' b (more_of-Stmt s end_of-Stmt) e) = turns here (F.bind (exec s) (at_turn_end (when_test (Some (eval F layouts call here e)) (F.pure Next)))) bound
+      exec (For' test step b (more_of-Stmt s end_of-Stmt)) = turns here (when_test (option_map (eval F layouts call here) test) (F.bind (exec s) (at_turn_end (loop_step (option_map (eval F layouts call here) step))))) bound
       exec Break = F.pure Broken
       exec Continue = F.pure Continued
       exec (Return e) = exec_return e

@@ -16,11 +16,13 @@ accessed_by (act.Read p) = Some p
 accessed_by (act.Write p v) = Some p
 accessed_by _ = None
 
--- `getchar` and `putchar` are the functions 0 and 1
+-- `getchar`, `putchar`, `malloc` and `free` are the functions 0 to 3
 abbrev pub called_by : Action → Option ℕ
 called_by (act.Call g) = Some g
 called_by act.Input = Some 0
 called_by (act.Output b) = Some 1
+called_by (act.Malloc n p k) = Some 2
+called_by (act.Free p) = Some 3
 called_by _ = None
 
 abbrev pub event_of : Action → Event

@@ -25,6 +25,7 @@ use Rattle.step_meaning.specs.ExpressionTypes.{has_body, parameter_types}
 abbrev pub is_program_kind : NameKind → Bool
 is_program_kind names.Global = true
 is_program_kind names.Local = true
+is_program_kind names.Heap = true
 is_program_kind _ = false
 
 abbrev pub PointsIntoProgram : Value → Type 0
@@ -61,13 +62,15 @@ SlotTyped s = CellHasType s.declared s.cell
 abbrev pub BlocksTyped : List Block → Type 0
 BlocksTyped bs = All (All SlotTyped) bs
 
--- a memory has as many variables of file scope as the core; each cell holds nothing or a value of the type that the memory declares for it; an activation has one frame.
+-- a memory has as many variables of file scope as the core; each cell holds nothing or a value of the type that the memory declares for it; an activation has one frame, and a number one heap block.
 -- It isn't asked that the cells of a variable are those of its type in the core
 pub record IsProgramMemory (q : Core) (memory : Memory) : Type 0 where
   pub globals : length memory.globals ≡ length q.globals
   pub globals_typed : BlocksTyped memory.globals
   pub locals_typed : All (λ f. BlocksTyped f.locals) memory.frames
+  pub heap_typed : All (λ b. All SlotTyped b.cells) memory.heap
   pub one_frame_each : AllPairs (λ f g. f.activation ≢ g.activation) memory.frames
+  pub one_block_each : AllPairs (λ b c. b.number ≢ c.number) memory.heap
 
 -- ---- actions
 
@@ -81,18 +84,22 @@ NamesOwn (act.Enter g vs) f = g ≡ f
 NamesOwn (act.Return g v) f = g ≡ f
 NamesOwn _ f = Unit {0}
 
--- no argument, result or accessed pointer points to a name of another kind
+-- no argument, result or accessed pointer, and no pointer of a Malloc or Free, points to a name of another kind
 abbrev pub PointsOnlyIntoProgram : Action → Type 0
 PointsOnlyIntoProgram (act.Enter g vs) = All PointsIntoProgram vs
 PointsOnlyIntoProgram (act.Return g (Some v)) = PointsIntoProgram v
 PointsOnlyIntoProgram (act.Read p) = PointsIntoProgram p
 PointsOnlyIntoProgram (act.Write p v) = PointsIntoProgram p
+PointsOnlyIntoProgram (act.Malloc n p k) = PointsIntoProgram p
+PointsOnlyIntoProgram (act.Free p) = PointsIntoProgram p
 PointsOnlyIntoProgram _ = Unit {0}
 
--- an access is at a pointer
+-- an access is at a pointer; so is a `free`, and `malloc` gives one
 abbrev pub AccessesPointer : Action → Type 0
 AccessesPointer (act.Read p) = IsPointer p
 AccessesPointer (act.Write p v) = IsPointer p
+AccessesPointer (act.Malloc n p k) = IsPointer p
+AccessesPointer (act.Free p) = IsPointer p
 AccessesPointer _ = Unit {0}
 
 -- the function with a body that executes the step

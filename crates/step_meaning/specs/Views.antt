@@ -29,9 +29,9 @@ pub record Sight : Type 0 where
   pub arguments : List Value
   pub result : Option Value
 
--- a memory without variables
+-- a memory without variables and heap blocks
 abbrev pub no_memory : Memory
-no_memory = record { globals = []; frames = [] }
+no_memory = record { globals = []; frames = []; heap = [] }
 
 -- the cell that a read reaches at an offset of a variable, at a type, and none where the access isn't allowed
 abbrev pub Reads : Type 0
@@ -44,6 +44,7 @@ register_block s a i = if a == s.activation then option_map (λ r. r ∷ []) (sl
 abbrev pub visible_block : Sight → NameKind → Name → Option Block
 visible_block s names.Global n = block s.memory n
 visible_block s names.Local n = block s.memory n
+visible_block s names.Heap n = block s.memory n
 visible_block s names.Register n = register_block s n.activation n.index
 visible_block s names.GhostGlobal n = file_block s.ghosts n.activation n.index
 visible_block s names.GhostLocal n = frame_block s.ghosts n.activation n.index

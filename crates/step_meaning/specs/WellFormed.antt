@@ -1,19 +1,16 @@
 -- Well-formed programs: those that the text of a program can stand for, with or without annotations (C11 6.4 to 6.9 in the language of this project).
 -- Each condition is a sentence of its own. What a part names exists, since it has a type, a body or initial values only then.
-use Rattle.std.specs.Prelude.{ℕ, Bool, true, false, ◌&&◌, not, ◌==◌, nat_le, List, [], ◌∷◌, ◌++◌, map, length, slice_get, Option, Some, None, IsTrue, codes}
+use Rattle.std.specs.Prelude.{ℕ, Bool, false, ◌&&◌, nat_le, List, [], ◌∷◌, ◌++◌, map, length, slice_get, Option, Some, None, IsTrue, codes}
 use Rattle.std.specs.List.{list_all, AllByRecursion}
-use Rattle.std.specs.Str.{bytes_eq}
-use Rattle.step_meaning.specs.declared.value.IntKind.TheVariants as kind
-use Rattle.step_meaning.specs.declared.value.CType.{CType}
-use Rattle.step_meaning.specs.declared.value.CType.TheVariants as type
 use Rattle.step_meaning.specs.declared.stmt.Stmt.{Stmt}
 use Rattle.step_meaning.specs.declared.program.Layout.{Layout}
 use Rattle.step_meaning.specs.declared.program.Declared.{Declared}
 use Rattle.step_meaning.specs.declared.program.Function.{Function}
 use Rattle.step_meaning.specs.declared.program.Core.{Core}
-use Rattle.step_meaning.specs.Types.{same_type}
 use Rattle.step_meaning.specs.TypeRules.{are_layouts, keeps_rules, is_scalar_type, is_result_type}
 use Rattle.step_meaning.specs.ExpressionTypes.{has_body, parameter_types}
+pub use Rattle.step_meaning.specs.Library.{int}
+use Rattle.step_meaning.specs.Library.{is_function, is_library, is_malloc, is_free, but_allocation}
 use Rattle.step_meaning.specs.StatementRules.{BodyFits}
 use Rattle.step_meaning.specs.InitialValues.{AllInitialised}
 use Rattle.step_meaning.specs.Identifiers.{is_name, are_distinct}
@@ -25,27 +22,10 @@ OfBody P (Some ss) = P ss
 
 -- ---- types of functions
 
-abbrev pub int : CType
-int = type.Int kind.Int
-
--- a function with this name, with parameters of these types and the result `int`
-abbrev pub is_int_function : List ℕ → List CType → Function → Bool
-is_int_function name ts f = bytes_eq f.name name && (same_type f.result int && (f.params == length ts && are_same (parameter_types f) ts))
-  where
-    are_same : List CType → List CType → Bool
-    are_same [] [] = true
-    are_same (t ∷ ts) (u ∷ us) = same_type t u && are_same ts us
-    are_same _ _ = false
-
 -- `int main(void)`, with a body (C11 5.1.2.2.1)
 abbrev pub is_main : Option Function → Bool
 is_main None = false
-is_main (Some f) = is_int_function (codes "main") [] f && has_body f
-
--- a function of the library, without a body
-abbrev pub is_library : List ℕ → List CType → Option Function → Bool
-is_library name ts None = false
-is_library name ts (Some f) = is_int_function name ts f && not (has_body f)
+is_main (Some f) = is_function (codes "main") int [] f && has_body f
 
 -- ---- names
 
@@ -85,13 +65,15 @@ pub record IsWellFormed (q : Core) : Type 0 where
   pub initial : AllInitialised q 0 q.globals q.initial
   -- ghost variables of file scope are integers or pointers
   pub ghosts : IsTrue (list_all (λ d. is_scalar_type q.layouts d.ctype) q.ghosts)
-  -- `getchar` and `putchar` are the functions 0 and 1 (C11 7.21.7.6, 7.21.7.8)
-  pub getchar : IsTrue (is_library (codes "getchar") [] (slice_get q.functions 0))
-  pub putchar : IsTrue (is_library (codes "putchar") (int ∷ []) (slice_get q.functions 1))
+  -- `getchar`, `putchar`, `malloc` and `free` are the functions 0 to 3 (C11 7.21.7.6, 7.21.7.8, 7.22.3.4, 7.22.3.3)
+  pub getchar : IsTrue (is_library (codes "getchar") int [] (slice_get q.functions 0))
+  pub putchar : IsTrue (is_library (codes "putchar") int (int ∷ []) (slice_get q.functions 1))
+  pub malloc : IsTrue (is_malloc (slice_get q.functions 2))
+  pub free : IsTrue (is_free (slice_get q.functions 3))
   -- the program has `main`
   pub main : IsTrue (is_main (slice_get q.functions q.start))
-  -- each function is well formed
-  pub functions : AllByRecursion (IsWellFormedFunction q) q.functions
+  -- each function is well formed. `malloc` and `free` alone declare a pointer to `void`
+  pub functions : AllByRecursion (IsWellFormedFunction q) (but_allocation q.functions)
   -- variables of file scope and functions have names, which together are distinct
   pub file_names : IsTrue (list_all is_name (declared_names q.globals ++ map (λ f. f.name) q.functions))
   pub distinct_names : IsTrue (are_distinct (declared_names q.globals ++ map (λ f. f.name) q.functions))

@@ -148,6 +148,10 @@ pub enum Expr {
     GetChar,
     /// `putchar(e)` (C11 7.21.7.8).
     PutChar(Boxed<Expr>),
+    /// `malloc(e * sizeof(T))`: a new block for so many objects of the type, with the count as an `unsigned long` (C11 7.22.3.4).
+    Malloc(Boxed<Expr>, CType),
+    /// `free(e)` (C11 7.22.3.3).
+    Free(Boxed<Expr>),
     /// A cast to `void` (C11 6.5.4).
     Discard(Boxed<Expr>),
 }

@@ -40,6 +40,7 @@ fn same_kind(a: NameKind, b: NameKind) -> bool
     match a {
         NameKind::Global => matches!(b, NameKind::Global),
         NameKind::Local => matches!(b, NameKind::Local),
+        NameKind::Heap => matches!(b, NameKind::Heap),
         NameKind::Register => matches!(b, NameKind::Register),
         NameKind::GhostGlobal => matches!(b, NameKind::GhostGlobal),
         NameKind::GhostLocal => matches!(b, NameKind::GhostLocal),

@@ -51,7 +51,7 @@ pub struct Core {
     pub initial: Items<Items<Value>>,
     /// The ghost variables of file scope.
     pub ghosts: Items<Declared>,
-    /// The functions: `getchar`, `putchar`, then the others in order of first declaration.
+    /// The functions: `getchar`, `putchar`, `malloc`, `free`, then the others in order of first declaration.
     pub functions: Items<Function>,
     /// The number of `main`.
     pub start: u32,
@@ -94,7 +94,7 @@ pub enum HookPlace {
     Read,
     /// It writes the memory.
     Write,
-    /// It calls a function, `getchar` and `putchar` included.
+    /// It calls a function, `getchar`, `putchar`, `malloc` and `free` included.
     Call,
     /// Every step of it.
     Changed,

@@ -45,6 +45,8 @@ pub enum NameKind {
     Global,
     /// A parameter or a variable of a function's block.
     Local,
+    /// A block of the heap, which `malloc` made (C11 7.22.3). Its number stands in `activation`, and `index` is 0.
+    Heap,
     /// A variable declared `register`: no part of the memory.
     Register,
     /// A ghost variable of file scope (ACSL, ghost variables and statements).
@@ -53,12 +55,12 @@ pub enum NameKind {
     GhostLocal,
 }
 
-/// The name of a variable in a run. A name of file scope has activation 0.
+/// The name of a variable or heap block in a run. A name of file scope has activation 0.
 #[derive(Clone, Copy, PartialEq, Eq)]
 pub struct Name {
     /// What the variable is.
     pub kind: NameKind,
-    /// The number of activations that were made before the variable's own.
+    /// The number of activations that were made before the variable's own; of a heap block, that of the blocks made before it.
     pub activation: u64,
     /// The variable's number among those of its kind in the program or in its function.
     pub index: u32,
@@ -101,6 +103,8 @@ pub enum RunFault {
     Uninit,
     /// The `}` of a function with a value is reached (C11 6.9.1).
     NoReturn,
+    /// `free` of a pointer that is neither null nor the beginning of a live heap block (C11 7.22.3.3).
+    BadFree,
 }
 
 /// What a step of a run does.
@@ -120,6 +124,10 @@ pub enum Action {
     Input,
     /// `putchar` is called with this byte (C11 7.21.7.8).
     Output(u8),
+    /// `malloc` is called for so many objects and gives the pointer; the new block has so many cells, and 0 where the pointer is null (C11 7.22.3.4).
+    Malloc(u64, Value, u32),
+    /// `free` is called with the pointer (C11 7.22.3.3).
+    Free(Value),
     /// A turn of a loop begins.
     Turn,
     /// The run ends by the fault.

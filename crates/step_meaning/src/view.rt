@@ -36,7 +36,7 @@ pub trait View {
     fn accessed(&self) -> Option<Value>
         ensures { result ≡ (sight self.now).accessed };
 
-    /// The number of the function that a Call, Input or Output step calls.
+    /// The number of the function that a Call, Input, Output, Malloc or Free step calls.
     fn called(&self) -> Option<u32>
         ensures { result ≡ (sight self.now).called };
 

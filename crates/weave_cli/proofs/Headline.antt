@@ -11,7 +11,7 @@ use Rattle.step_meaning.specs.Verdicts.{verdicts_before, AreSafe}
 use Rattle.c_grammar.specs.declared.word.Mode.TheVariants as mode
 use Rattle.c_parser.specs.Program.{Function, Property, Program}
 use Rattle.c_parser.specs.FirstForm.{BodiesFit, IsFirstForm, IsTextOf}
-use Rattle.weave_cli.specs.FirstCore.{core_functions, getchar, putchar, first_core}
+use Rattle.weave_cli.specs.FirstCore.{core_functions, getchar, putchar, malloc, free, first_core}
 use Rattle.weave_cli.specs.Weaving.{property_function, woven}
 use Rattle.weave_cli.specs.Simulation.{IsMonitor, Simulates}
 use Rattle.weave_cli.specs.FirstTask.{NeverWrites, no_automaton, meets, SimulatesTask, first_task, IsWeavingOf}
@@ -73,12 +73,12 @@ pub of_parts : (globals : List (List ℕ)) (property : Option Property) (fs : Li
     → SimulatesTask (first_task (record { globals = globals; property = property; functions = fs })) (first_core (woven (record { globals = globals; property = property; functions = fs })))
 of_parts globals None fs fits =
     let p : Program = record { globals = globals; property = None; functions = fs } in
-    unwoven 0 (first_core p) (getchar ∷ putchar ∷ core_functions fs) (getchar ∷ putchar ∷ core_functions (map (property_function 0) fs)) (all_alike 0 (length globals) fs fits)
+    unwoven 0 (first_core p) (getchar ∷ putchar ∷ malloc ∷ free ∷ core_functions fs) (getchar ∷ putchar ∷ malloc ∷ free ∷ core_functions (map (property_function 0) fs)) (all_alike 0 (length globals) fs fits)
 of_parts globals (Some m) fs fits =
     let p : Program = record { globals = globals; property = Some m; functions = fs } in
     let after = map (property_function m.variable) fs in
-    let simulated = simulated m.variable (first_core p) (getchar ∷ putchar ∷ core_functions fs) (getchar ∷ putchar ∷ core_functions after) (all_alike m.variable (length globals) fs fits) in
-    subst (λ n. SimulatesTask (first_task p) (record (first_core (woven p)) { start = suc n })) (sym (length-map fs (property_function m.variable))) simulated
+    let simulated = simulated m.variable (first_core p) (getchar ∷ putchar ∷ malloc ∷ free ∷ core_functions fs) (getchar ∷ putchar ∷ malloc ∷ free ∷ core_functions after) (all_alike m.variable (length globals) fs fits) in
+    subst (λ n. SimulatesTask (first_task p) (record (first_core (woven p)) { start = suc (suc (suc n)) })) (sym (length-map fs (property_function m.variable))) simulated
 
 -- the headline for the first form
 pub woven_simulates : (p : Program) → IsFirstForm mode.Source p → SimulatesTask (first_task p) (first_core (woven p))

@@ -5,7 +5,7 @@ use Rattle.step_meaning.specs.declared.stmt.Stmt.{Stmt}
 use Rattle.c_parser.specs.declared.tree.FirstStmt.{FirstStmt}
 use Rattle.c_parser.specs.declared.tree.FirstStmt.TheVariants as stmt
 use Rattle.c_parser.specs.Program.{Function, Property, Program}
-use Rattle.weave_cli.specs.FirstCore.{int, core_statement, core_statements, return_zero, core_function, void_function, core_functions, getchar, putchar, first_core}
+use Rattle.weave_cli.specs.FirstCore.{int, core_statement, core_statements, return_zero, core_function, void_function, core_functions, getchar, putchar, malloc, free, first_core}
 use Rattle.weave_cli.specs.Weaving.{woven_statements, woven_body, property_function, woven}
 use Rattle.weave_cli.specs.FirstTask.{program_statements, program_function, KeepsProgram}
 
@@ -38,8 +38,8 @@ of_property globals (Some m) fs =
     record {
       globals = refl;
       initial = refl;
-      start = ap suc (length-map fs (property_function m.variable));
-      functions = ap (λ rest. program_function getchar ∷ program_function putchar ∷ rest) (functions_kept m.variable fs);
+      start = ap (λ n. suc (suc (suc n))) (length-map fs (property_function m.variable));
+      functions = ap (λ rest. program_function getchar ∷ program_function putchar ∷ program_function malloc ∷ program_function free ∷ rest) (functions_kept m.variable fs);
     }
 
 pub program_kept : (p : Program) → KeepsProgram (first_core p) (first_core (woven p))

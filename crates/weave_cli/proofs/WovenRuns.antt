@@ -21,7 +21,7 @@ use Rattle.c_parser.specs.declared.tree.FirstStmt.TheVariants as stmt
 use Rattle.c_grammar.specs.declared.word.Mode.TheVariants as mode
 use Rattle.c_parser.specs.Program.{Function}
 use Rattle.c_parser.specs.FirstForm.{StatementFits, BodiesFit}
-use Rattle.weave_cli.specs.FirstCore.{int, core_statements, return_zero, core_function, void_function, core_functions, getchar, putchar}
+use Rattle.weave_cli.specs.FirstCore.{int, core_statements, return_zero, core_function, void_function, core_functions, getchar, putchar, malloc, free}
 use Rattle.weave_cli.specs.Weaving.{woven_body, property_function}
 use Rattle.weave_cli.proofs.WovenTraces.{Woven, stops, quiet, Alike, CallsAlike, statements_alike, source_is_not_woven}
 
@@ -113,6 +113,8 @@ pub data FunctionsAlike (x : ℕ) : Option CoreFunction → Option CoreFunction 
   neither : FunctionsAlike x None None
   library_in : FunctionsAlike x (Some getchar) (Some getchar)
   library_out : FunctionsAlike x (Some putchar) (Some putchar)
+  library_malloc : FunctionsAlike x (Some malloc) (Some malloc)
+  library_free : FunctionsAlike x (Some free) (Some free)
   void : (name : List ℕ) (ss : List FirstStmt) (n e : ℕ) → AllByRecursion (StatementFits mode.Source n e) ss
       → FunctionsAlike x (Some (core_function name type.Void (core_statements ss ++ []))) (Some (core_function name type.Void (core_statements (woven_body x ss) ++ [])))
   main : (name : List ℕ) (ss : List FirstStmt) (n e : ℕ) → AllByRecursion (StatementFits mode.Source n e) ss
@@ -132,10 +134,12 @@ functions_alike x n e (f ∷ h ∷ fs) fits zero = void_alike x n e f fits.0
 functions_alike x n e (f ∷ h ∷ fs) fits (suc g) = functions_alike x n (e + 1) (h ∷ fs) fits.1 g
 
 pub all_alike : (x n : ℕ) (fs : List Function) → BodiesFit mode.Source n 0 fs → (g : ℕ)
-    → FunctionsAlike x (slice_get (getchar ∷ putchar ∷ core_functions fs) g) (slice_get (getchar ∷ putchar ∷ core_functions (map (property_function x) fs)) g)
+    → FunctionsAlike x (slice_get (getchar ∷ putchar ∷ malloc ∷ free ∷ core_functions fs) g) (slice_get (getchar ∷ putchar ∷ malloc ∷ free ∷ core_functions (map (property_function x) fs)) g)
 all_alike x n fs fits zero = library_in
 all_alike x n fs fits (suc zero) = library_out
-all_alike x n fs fits (suc (suc g)) = functions_alike x n 0 fs fits g
+all_alike x n fs fits (suc (suc zero)) = library_malloc
+all_alike x n fs fits (suc (suc (suc zero))) = library_free
+all_alike x n fs fits (suc (suc (suc (suc g)))) = functions_alike x n 0 fs fits g
 
 -- ---- calls
 
@@ -158,6 +162,7 @@ module _ (x k : ℕ) (p : Core) (fs fs' : List CoreFunction) (same : (g : ℕ) �
         ghosts = with_frame (record { activation = s.made; locals = [] }) s.ghosts;
         input = s.input;
         made = suc s.made;
+        allocated = s.allocated;
       }
 
   void_body_alike : (call call' : ℕ → List Value → RestingCall) → CallsAlike x call call' → (g : ℕ) (name : List ℕ) (ss : List FirstStmt) (n e : ℕ) → AllByRecursion (StatementFits mode.Source n e) ss
@@ -194,6 +199,8 @@ module _ (x k : ℕ) (p : Core) (fs fs' : List CoreFunction) (same : (g : ℕ) �
   call_alike call call' alike g _ _ neither vs rest rest' more s = stops
   call_alike call call' alike g _ _ library_in vs rest rest' more s = stops
   call_alike call call' alike g _ _ library_out vs rest rest' more s = stops
+  call_alike call call' alike g _ _ library_malloc vs rest rest' more s = stops
+  call_alike call call' alike g _ _ library_free vs rest rest' more s = stops
   call_alike call call' alike g _ _ (void name ss n e fits) vs rest rest' more s = void_body_alike call call' alike g name ss n e fits vs rest rest' more s
   call_alike call call' alike g _ _ (main name ss n e fits) vs rest rest' more s = main_body_alike call call' alike g name ss n e fits vs rest rest' more s
 

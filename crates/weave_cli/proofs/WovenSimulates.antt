@@ -15,7 +15,7 @@ use Rattle.step_meaning.specs.Verdicts.{verdicts, verdicts_before, AreSafe, HasN
 use Rattle.weave_cli.specs.Simulation.{IsMonitor}
 use Rattle.weave_cli.specs.FirstTask.{Writes, NeverWrites}
 use Rattle.weave_cli.proofs.WovenTraces.{IsQuiet, global_pointer, Woven, stops, quiet, writes}
-use Rattle.weave_cli.proofs.WovenRuns.{FunctionsAlike, neither, library_in, library_out, void, main}
+use Rattle.weave_cli.proofs.WovenRuns.{FunctionsAlike, neither, library_in, library_out, library_malloc, library_free, void, main}
 
 -- ---- ends, steps and verdicts
 
@@ -91,6 +91,8 @@ pub same_name : (x : ℕ) (f g : Option CoreFunction) → FunctionsAlike x f g �
 same_name x _ _ neither = refl
 same_name x _ _ library_in = refl
 same_name x _ _ library_out = refl
+same_name x _ _ library_malloc = refl
+same_name x _ _ library_free = refl
 same_name x _ _ (void name ss n e fits) = refl
 same_name x _ _ (main name ss n e fits) = refl
 

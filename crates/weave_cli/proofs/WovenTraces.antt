@@ -89,7 +89,7 @@ module _ (x : ℕ) (call call' : ℕ → List Value → RestingCall) (alike : Ca
   statements_alike n e (stmt.Call f ∷ ss) tail fits after = record {
     by = λ rest rest' h s r.
         let more = statements_alike n e ss tail fits.1 after in
-        quiet _ tt (alike.by (suc (suc f)) [] _ _ (λ v s. more.by rest rest' h s r) s);
+        quiet _ tt (alike.by (suc (suc (suc (suc f)))) [] _ _ (λ v s. more.by rest rest' h s r) s);
   }
   statements_alike n e (stmt.Empty ∷ ss) tail fits after = absurd (source_is_not_woven fits.0)
   statements_alike n e (stmt.Assert y z ∷ ss) tail fits after = absurd (source_is_not_woven fits.0.0)

@@ -1,7 +1,7 @@
 -- The core of a program of the first form: the program as the meaning sees it, with types, and with functions by their numbers.
 use Rattle.std.specs.Prelude.{ℕ, suc, pos, ℤ, List, [], ◌∷◌, ◌++◌, length, map, Some, None, codes}
 use Rattle.step_meaning.specs.declared.value.IntKind.TheVariants as kind
-use Rattle.step_meaning.specs.declared.value.CType.{CType}
+use Rattle.step_meaning.specs.declared.value.CType.{CType, end_of-CType, more_of-CType}
 use Rattle.step_meaning.specs.declared.value.CType.TheVariants as type
 use Rattle.step_meaning.specs.declared.value.NameKind.TheVariants as names
 use Rattle.step_meaning.specs.declared.value.Value.{Value}
@@ -43,9 +43,9 @@ separated y x = Separated (location y ∷ location x ∷ [])
 abbrev pub literal : ℤ → Expr
 literal n = expr.Literal kind.Int n
 
--- `getchar` and `putchar` have the numbers 0 and 1, the functions of the text the numbers after these
+-- `getchar`, `putchar`, `malloc` and `free` have the numbers 0 to 3, the functions of the text the numbers after these
 abbrev pub function_number : ℕ → ℕ
-function_number f = suc (suc f)
+function_number f = suc (suc (suc (suc f)))
 
 abbrev pub core_statement : FirstStmt → Stmt
 core_statement (stmt.Assign x n) = core.Eval (expr.Assign' (place.Own (variable x)) int tt (more_of-Expr (literal n) end_of-Expr))
@@ -84,6 +84,15 @@ putchar = record { name = codes "putchar"; result = int; params = 1; locals = re
 abbrev pub core_global : List ℕ → Declared
 core_global name = record { name = name; ctype = int }
 
+abbrev pub void_pointer : CType
+void_pointer = type.Pointer' tt (more_of-CType type.Void end_of-CType)
+
+abbrev pub malloc : CoreFunction
+malloc = record { name = codes "malloc"; result = void_pointer; params = 1; locals = record { name = []; ctype = type.Int kind.ULong } ∷ []; registers = []; ghosts = []; body = None }
+
+abbrev pub free : CoreFunction
+free = record { name = codes "free"; result = type.Void; params = 1; locals = record { name = []; ctype = void_pointer } ∷ []; registers = []; ghosts = []; body = None }
+
 -- a variable without initialiser starts at zero (C11 6.7.9, 10)
 abbrev pub zero_cell : List ℕ → List Value
 zero_cell name = value.Int (pos 0) ∷ []
@@ -95,6 +104,6 @@ first_core p =
       globals = map core_global p.globals;
       initial = map zero_cell p.globals;
       ghosts = [];
-      functions = getchar ∷ putchar ∷ core_functions p.functions;
-      start = suc (length p.functions);
+      functions = getchar ∷ putchar ∷ malloc ∷ free ∷ core_functions p.functions;
+      start = suc (suc (suc (length p.functions)));
     }
