@@ -200,7 +200,7 @@ module _ (p : Core) (h : Hooks) (j : ℕ) (IsTheirs : ℕ → Type 0) (ss : List
 
 module _ (p : Core) (h : Hooks) (j : ℕ) (IsTheirs : ℕ → Type 0) (ss : List Step) where
   abbrev pub below : Memory → List Frame → Memory
-  below g outer = record { globals = g.globals; frames = outer }
+  below g outer = record g { frames = outer }
 
   -- what comes after a call in which only frames of later activations changed
   abbrev pub CallerSimulated : State → Memory → List Frame → (Value → State → Trace) → (Value → State → Trace) → Type 0

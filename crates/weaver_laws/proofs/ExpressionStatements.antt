@@ -47,7 +47,7 @@ use Rattle.weaver_laws.proofs.ActivationSteps.{InBody, PartlyAsserted, step, fol
 use Rattle.weaver_laws.proofs.Operands.{step_inside, operand_value, operand_values, operand_strict, operand_run, operands_strict, operands_run, operand_term}
 use Rattle.weaver_laws.proofs.SilentExpressions.{silent_eval}
 use Rattle.weaver_laws.proofs.StepStatements.{assert_changed, halted, ExitsSimulated, PartSimulated, held_case, write_simulated, pointer_inside}
-use Rattle.weaver_laws.proofs.ValueSteps.{register_takes, nothing_takes, ValueGiven, read_gives, input_gives, output_gives, call_substitutes}
+use Rattle.weaver_laws.proofs.ValueSteps.{register_takes, nothing_takes, ValueGiven, read_gives, input_gives, output_gives, malloc_gives, free_gives, call_substitutes}
 use Rattle.weaver_laws.proofs.ScalarAccesses.{has_scalar_access, has_scalars}
 
 some_is : {A : Type 0} (x y : A) → Some x ≡ Some y → x ≡ y
@@ -104,10 +104,10 @@ module _ (p : Core) (h : Hooks) (j : ℕ) (IsTheirs : ℕ → Type 0) (ss : List
   call_gives : (f : ℕ) (b : _) (es : Row_of-Expr _) → are_operands es ≡ true → ValueGiven p h j IsTheirs ss ready here outer source_call woven_call bound first (ex.Invoke' f b es) place.Call (call_substitution f)
   call_gives f b es oe k k' takes T rest' runs s g good vs r body opened proper =
       let a = act.Call f in
-      let t = eval strict source_call here (ex.Invoke' f b es) k s r in
+      let t = eval strict p.layouts source_call here (ex.Invoke' f b es) k s r in
       let T' = code_before hook_points here.function place.Call (call_substitution f) ++ T in
       held_case p h j IsTheirs ss ready here outer source_call woven_call bound first (operand_values es r) (λ xs s r. Then (Made (step_here a s)) (source_call f xs (λ v s. k v s r) s)) s r t
-        (operands_strict here source_call es oe (λ xs s r. Then (Made (step_here a s)) (source_call f xs (λ v s. k v s r) s)) s r) proper (SimulatedHere g good vs t (run_woven T' rest' (woven_state s g) r)) (λ xs ex' et.
+        (operands_strict here p.layouts source_call es oe (λ xs s r. Then (Made (step_here a s)) (source_call f xs (λ v s. k v s r) s)) s r) proper (SimulatedHere g good vs t (run_woven T' rest' (woven_state s g) r)) (λ xs ex' et.
           let t' = source_call f xs (λ v s. k v s r) s in
           let proper' : IsProper p false (Then (Made (step_here a s)) t') = subst (λ t. IsProper p false t) et proper in
           let substitutes = call_substitutes p h j IsTheirs ss ready here outer source_call woven_call bound first a f refl refl s r in
@@ -119,7 +119,7 @@ module _ (p : Core) (h : Hooks) (j : ℕ) (IsTheirs : ℕ → Type 0) (ss : List
           subst (λ t. SimulatedHere g good vs t (run_woven T' rest' (woven_state s g) r)) (sym et)
             (announce p h j IsTheirs ss ready here outer a refl s r (call_substitution f) m_in substitutes woven_call bound first g good vs body opened t' T rest'
               (λ G. woven_call f xs (λ v s. k' v s r) (record s { ghosts = G }))
-              (λ G. runs (record s { ghosts = G }) r ∙ operands_run here woven_call es oe xs r ex' (λ xs s r. Then (Made (step_here a s)) (woven_call f xs (λ v s. k' v s r) s)) (record s { ghosts = G }))
+              (λ G. runs (record s { ghosts = G }) r ∙ operands_run here p.layouts woven_call es oe xs r ex' (λ xs s r. Then (Made (step_here a s)) (woven_call f xs (λ v s. k' v s r) s)) (record s { ghosts = G }))
               (alike.by f xs s g' (f0 ∷ outer) good' body'.inside body'.bounded (λ v s. k v s r) (λ v s. k' v s r)
                 (λ v s2 g2 good2 i2 b2 le same f2.
                   let same_own = same here.activation body'.later in
@@ -130,7 +130,7 @@ module _ (p : Core) (h : Hooks) (j : ℕ) (IsTheirs : ℕ → Type 0) (ss : List
                       bounded = b2;
                       later = let m : here.activation < s.made = body'.later in let l' : s.made ≤ s2.made = le in omega arith;
                     } in
-                  subst (λ (o : Option Frame). SimulatedHere g2 good2 [] (k v s2 r) (k' v (record s2 { ghosts = record { globals = g2.globals; frames = own_frame here.activation o ∷ outer } }) r)) same_own
+                  subst (λ (o : Option Frame). SimulatedHere g2 good2 [] (k v s2 r) (k' v (record s2 { ghosts = record g2 { frames = own_frame here.activation o ∷ outer } }) r)) same_own
                     (takes.by v s2 g2 good2 [] r inner (exact_open p h j IsTheirs ss ready here outer s2 g2 good2) f2))
                 proper'.1)))
 
@@ -140,8 +140,8 @@ module _ (p : Core) (h : Hooks) (j : ℕ) (IsTheirs : ℕ → Type 0) (ss : List
       → PartSimulatedHere rest rest' (λ rest. run_statement (Eval (ex.Assign' q u b (more_of-Expr e end_of-Expr))) (λ c. sm.on_next strict D c rest)) (run_woven (changed_code hook_points here.function ++ (Eval (ex.Assign' q u b (more_of-Expr e end_of-Expr)) ∷ tail)))
   silent_simulated q u b e oq oe D tail rest rest' simulated = record { by = λ s g good vs r body opened proper.
       let E = ex.Assign' q u b (more_of-Expr e end_of-Expr) in
-      assert_changed p h j IsTheirs ss ready here outer source_call woven_call bound first s r g good vs body opened (eval strict source_call here E (λ x. D rest) s r) (Eval E ∷ tail) rest' (λ ws a.
-        (silent_eval here source_call woven_call E (both (is_register q) (is_silent e) oq oe)).by s (image here.activation outer g) r (λ t u. IsProper p false t → SimulatedHere g good ws t u) (λ x. D rest) (λ x. run_woven tail rest')
+      assert_changed p h j IsTheirs ss ready here outer source_call woven_call bound first s r g good vs body opened (eval strict p.layouts source_call here E (λ x. D rest) s r) (Eval E ∷ tail) rest' (λ ws a.
+        (silent_eval here p.layouts source_call woven_call E (both (is_register q) (is_silent e) oq oe)).by s (image here.activation outer g) r (λ t u. IsProper p false t → SimulatedHere g good ws t u) (λ x. D rest) (λ x. run_woven tail rest')
           (λ x r' f. simulated.by s g good ws r' body (asserted_open p h j IsTheirs ss ready here outer s g good ws a) f)
           (λ f proper. halted p h j IsTheirs ss ready here outer source_call woven_call bound first s g good ws body a f proper)
           (λ u f. no_true f)
@@ -205,13 +205,13 @@ module _ (p : Core) (h : Hooks) (j : ℕ) (IsTheirs : ℕ → Type 0) (ss : List
   return_simulated None o D tail rest rest' exits = record { by = λ s g good vs r body opened proper.
       announce_return None None (st.Return None ∷ tail) rest rest' exits s g good vs r body opened proper (λ base g. refl) (λ H. refl) }
   return_simulated (Some e) o D tail rest rest' exits = record { by = λ s g good vs r body opened proper.
-      let t = eval strict source_call here e (λ v. rest (Returned (Some v))) s r in
+      let t = eval strict p.layouts source_call here e (λ v. rest (Returned (Some v))) s r in
       let T' = code_before hook_points here.function place.Return (return_substitution (Some e)) ++ (st.Return (Some e) ∷ tail) in
-      held_case p h j IsTheirs ss ready here outer source_call woven_call bound first (operand_value e r) (λ v. rest (Returned (Some v))) s r t (operand_strict here source_call e o (λ v. rest (Returned (Some v))) s r) proper (SimulatedHere g good vs t (run_woven T' rest' (woven_state s g) r)) (λ v ev et.
+      held_case p h j IsTheirs ss ready here outer source_call woven_call bound first (operand_value e r) (λ v. rest (Returned (Some v))) s r t (operand_strict here p.layouts source_call e o (λ v. rest (Returned (Some v))) s r) proper (SimulatedHere g good vs t (run_woven T' rest' (woven_state s g) r)) (λ v ev et.
         subst (λ t. SimulatedHere g good vs t (run_woven T' rest' (woven_state s g) r)) (sym et)
           (announce_return (Some e) (Some v) (st.Return (Some e) ∷ tail) rest rest' exits s g good vs r body opened (subst (λ t. IsProper p false t) et proper)
             (λ base g. operand_term here p s.memory r base g (step_parts ss (step_here (act.Return here.function (Some v)) s)) e o v ev)
-            (λ H. operand_run here woven_call e o v r ev (λ v. rest' (Returned (Some v))) (record s { ghosts = H })))) }
+            (λ H. operand_run here p.layouts woven_call e o v r ev (λ v. rest' (Returned (Some v))) (record s { ghosts = H })))) }
 
   -- ---- expression statements
 
@@ -239,6 +239,8 @@ module _ (p : Core) (h : Hooks) (j : ℕ) (IsTheirs : ℕ → Type 0) (ss : List
   value_form (ex.Invoke' f b es) e sc = (place.Call, call_substitution f, refl, call_gives f b es e)
   value_form ex.GetChar e sc = (place.Call, call_substitution 0, refl, input_gives p h j IsTheirs ss ready here outer source_call woven_call bound first)
   value_form (ex.PutChar' b (more_of-Expr d end_of-Expr)) e sc = (place.Call, call_substitution 1, refl, output_gives p h j IsTheirs ss ready here outer source_call woven_call bound first b d e)
+  value_form (ex.Malloc' b (more_of-Expr d end_of-Expr) u) e sc = (place.Call, call_substitution 2, refl, malloc_gives p h j IsTheirs ss ready here outer source_call woven_call bound first b d u e)
+  value_form (ex.Free' b (more_of-Expr d end_of-Expr)) e sc = (place.Call, call_substitution 3, refl, free_gives p h j IsTheirs ss ready here outer source_call woven_call bound first b d e)
   value_form _ e sc = no_true e
 
   silent_before : (d : Expr) → is_silent d ≡ true → code_before_value hook_points here.function d ≡ changed_code hook_points here.function
@@ -246,6 +248,8 @@ module _ (p : Core) (h : Hooks) (j : ℕ) (IsTheirs : ℕ → Type 0) (ss : List
   silent_before (ex.Invoke' f b es) e = no_true e
   silent_before ex.GetChar e = no_true e
   silent_before (ex.PutChar' b (more_of-Expr d end_of-Expr)) e = no_true e
+  silent_before (ex.Malloc' b (more_of-Expr d end_of-Expr) t) e = no_true e
+  silent_before (ex.Free' b (more_of-Expr d end_of-Expr)) e = no_true e
   silent_before _ e = refl
 
   -- a register takes the value of a step
@@ -257,14 +261,14 @@ module _ (p : Core) (h : Hooks) (j : ℕ) (IsTheirs : ℕ → Type 0) (ss : List
       let k = λ (l : Lvalue) (x : Value). store strict here u l x (λ x. D rest) in
       let k' = λ (l : Lvalue) (x : Value). store resting here u l x (λ x. run_woven tail rest') in
       let des : designated here.activation v 0 ≡ InRegister v.index = ap (λ b. cond b (InRegister v.index) (At (value.Pointer (name_in here.activation v) 0))) ev in
-      subst (λ l. IsProper p false (eval strict source_call here d (k l) s r) → SimulatedHere g good vs (eval strict source_call here d (k l) s r) (run_woven (code_before hook_points here.function pl substitution ++ T) rest' (woven_state s g) r)) (sym des)
-        (λ proper. gives (k (InRegister v.index)) (k' (InRegister v.index)) (register_takes p h j IsTheirs ss ready here outer source_call woven_call bound first u v.index D tail rest rest' simulated) T rest' (λ s r. ap (λ l. eval resting woven_call here d (k' l) s r) des) s g good vs r body opened proper)
+      subst (λ l. IsProper p false (eval strict p.layouts source_call here d (k l) s r) → SimulatedHere g good vs (eval strict p.layouts source_call here d (k l) s r) (run_woven (code_before hook_points here.function pl substitution ++ T) rest' (woven_state s g) r)) (sym des)
+        (λ proper. gives (k (InRegister v.index)) (k' (InRegister v.index)) (register_takes p h j IsTheirs ss ready here outer source_call woven_call bound first u v.index D tail rest rest' simulated) T rest' (λ s r. ap (λ l. eval resting p.layouts woven_call here d (k' l) s r) des) s g good vs r body opened proper)
         proper }
 
   bare_simulated : (d : Expr) → ValueForm d → (D : Resting Completion) (tail : List Stmt) (rest rest' : Completion → State → Registers → Trace) → PartSimulatedHere rest rest' D (run_woven tail)
       → PartSimulatedHere rest rest' (λ rest. run_statement (st.Eval d) (λ c. sm.on_next strict D c rest)) (run_woven (code_before_value hook_points here.function d ++ (st.Eval d ∷ tail)))
   bare_simulated d form D tail rest rest' simulated = record { by = λ s g good vs r body opened proper.
-      subst (λ c. SimulatedHere g good vs (eval strict source_call here d (λ x. D rest) s r) (run_woven (c ++ (st.Eval d ∷ tail)) rest' (woven_state s g) r)) (sym form.2)
+      subst (λ c. SimulatedHere g good vs (eval strict p.layouts source_call here d (λ x. D rest) s r) (run_woven (c ++ (st.Eval d ∷ tail)) rest' (woven_state s g) r)) (sym form.2)
         (form.3 (λ x. D rest) (λ x. run_woven tail rest') (nothing_takes p h j IsTheirs ss ready here outer source_call woven_call bound first D tail rest rest' simulated) (st.Eval d ∷ tail) rest' (λ s r. refl) s g good vs r body opened proper) }
 
   assign_register : (v : Variable) → is_register_variable v ≡ true → (u : CType) (b : _) (d : Expr) → (s : Bool) → is_silent d ≡ s → (is_silent d || (is_place_value d || is_single_call d)) ≡ true → has_scalar_access d ≡ true
@@ -301,4 +305,6 @@ module _ (p : Core) (h : Hooks) (j : ℕ) (IsTheirs : ℕ → Type 0) (ss : List
   eval_simulated (ex.Invoke' f b es) n sc D tail rest rest' simulated = bare_simulated (ex.Invoke' f b es) (value_form (ex.Invoke' f b es) n refl) D tail rest rest' simulated
   eval_simulated ex.GetChar n sc D tail rest rest' simulated = bare_simulated ex.GetChar (value_form ex.GetChar n refl) D tail rest rest' simulated
   eval_simulated (ex.PutChar' b (more_of-Expr d end_of-Expr)) n sc D tail rest rest' simulated = bare_simulated (ex.PutChar' b (more_of-Expr d end_of-Expr)) (value_form (ex.PutChar' b (more_of-Expr d end_of-Expr)) n refl) D tail rest rest' simulated
+  eval_simulated (ex.Malloc' b (more_of-Expr d end_of-Expr) u) n sc D tail rest rest' simulated = bare_simulated (ex.Malloc' b (more_of-Expr d end_of-Expr) u) (value_form (ex.Malloc' b (more_of-Expr d end_of-Expr) u) n refl) D tail rest rest' simulated
+  eval_simulated (ex.Free' b (more_of-Expr d end_of-Expr)) n sc D tail rest rest' simulated = bare_simulated (ex.Free' b (more_of-Expr d end_of-Expr)) (value_form (ex.Free' b (more_of-Expr d end_of-Expr)) n refl) D tail rest rest' simulated
   eval_simulated _ n sc D tail rest rest' simulated = no_true n

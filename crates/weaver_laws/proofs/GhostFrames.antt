@@ -26,7 +26,7 @@ own_frame a (Some f) = f
 own_frame a None = record { activation = a; locals = [] }
 
 abbrev pub image : ℕ → List Frame → Memory → Memory
-image a outer g = record { globals = g.globals; frames = own_frame a (frame_of a g.frames) ∷ outer }
+image a outer g = record g { frames = own_frame a (frame_of a g.frames) ∷ outer }
 
 pub number_same : (n : ℕ) → (n == n) ≡ true
 number_same n = told (n == n) (eqb_refl n)
@@ -118,12 +118,13 @@ own_changed fn a None e = ap (λ (bs : List Block). let f : Frame = record { act
 pub image_put : (a : ℕ) (outer : List Frame) (g : Memory) (k : NameKind) (i : ℕ) (c : Cell) → image a outer (ghost_put g k a i c) ≡ ghost_put (image a outer g) k a i c
 image_put a outer g names.Global i c = refl
 image_put a outer g names.Local i c = refl
+image_put a outer g names.Heap i c = refl
 image_put a outer g names.Register i c = refl
 image_put a outer g names.GhostGlobal i c = refl
 image_put a outer g names.GhostLocal i c =
     let fn = at_block (set_cell c 0) i in
     let f = own_frame a (frame_of a g.frames) in
-    ap (λ (fs : List Frame). let m : Memory = record { globals = g.globals; frames = fs } in m)
+    ap (λ (fs : List Frame). let m : Memory = record g { frames = fs } in m)
       (ap (λ (o : Option Frame). own_frame a o ∷ outer) (own_frame_after fn a g.frames)
       ∙ (ap (λ (f : Frame). f ∷ outer) (own_changed fn a (frame_of a g.frames) refl)
       ∙ sym (chosen (f.activation == a) (with_locals fn f ∷ outer) (f ∷ at_frame fn a outer) (own_activation a g.frames))))
@@ -131,6 +132,7 @@ image_put a outer g names.GhostLocal i c =
 pub image_type : (a : ℕ) (outer : List Frame) (g : Memory) (k : NameKind) (i : ℕ) → ghost_type g k a i ≡ ghost_type (image a outer g) k a i
 image_type a outer g names.Global i = refl
 image_type a outer g names.Local i = refl
+image_type a outer g names.Heap i = refl
 image_type a outer g names.Register i = refl
 image_type a outer g names.GhostGlobal i = refl
 image_type a outer g names.GhostLocal i = ap declared_in (sym (image_block a outer g i))
@@ -158,9 +160,10 @@ frames_inside (f ∷ fs) a i c h k = by (frames_inside fs a i c h k.1) (f.activa
 pub inside_put : (g : Memory) (k : NameKind) (a i : ℕ) (c : Cell) → CellInside c → MemoryInside g → MemoryInside (ghost_put g k a i c)
 inside_put g names.Global a i c h k = k
 inside_put g names.Local a i c h k = k
+inside_put g names.Heap a i c h k = k
 inside_put g names.Register a i c h k = k
-inside_put g names.GhostGlobal a i c h k = record { globals = blocks_inside g.globals i c h k.globals; frames = k.frames }
-inside_put g names.GhostLocal a i c h k = record { globals = k.globals; frames = frames_inside g.frames a i c h k.frames }
+inside_put g names.GhostGlobal a i c h k = record { globals = blocks_inside g.globals i c h k.globals; frames = k.frames; heap = k.heap }
+inside_put g names.GhostLocal a i c h k = record { globals = k.globals; frames = frames_inside g.frames a i c h k.frames; heap = k.heap }
 
 pub new_inside : (u : CType) (v : Option TermValue) → TermInside v → CellInside (ghost_cell u (option_and_then scalar_value v))
 new_inside u None h = tt
@@ -226,6 +229,7 @@ some_kept fn (Some f) = refl
 pub others_put : (a : ℕ) (g : Memory) (k : NameKind) (i : ℕ) (c : Cell) → OthersUnchanged a g (ghost_put g k a i c)
 others_put a g names.Global i c = others_same a g
 others_put a g names.Local i c = others_same a g
+others_put a g names.Heap i c = others_same a g
 others_put a g names.Register i c = others_same a g
 others_put a g names.GhostGlobal i c = record { frames = λ b e. refl; own = refl; order = refl }
 others_put a g names.GhostLocal i c =
@@ -236,6 +240,7 @@ others_put a g names.GhostLocal i c =
 pub frames_put : (at : HookPlace) (g : Memory) (k : NameKind) (a i : ℕ) (c : Cell) → is_enter_place at ≡ false → MaySet at k → (ghost_put g k a i c).frames ≡ g.frames
 frames_put at g names.Global a i c e h = refl
 frames_put at g names.Local a i c e h = refl
+frames_put at g names.Heap a i c e h = refl
 frames_put at g names.Register a i c e h = refl
 frames_put at g names.GhostGlobal a i c e h = refl
 frames_put at g names.GhostLocal a i c e h = absurd (no (sym e ∙ h))

@@ -9,7 +9,7 @@ use Rattle.step_meaning.specs.declared.value.Value.TheVariants as value
 use Rattle.step_meaning.specs.declared.value.Cell.{Cell}
 use Rattle.step_meaning.specs.declared.value.Cell.TheVariants.{Nothing, Holds}
 use Rattle.step_meaning.specs.Types.{same_type}
-use Rattle.step_meaning.specs.Memory.{Memory, Frame, Slot, Block, typed, slot_at, file_block, frame_block, frame_of}
+use Rattle.step_meaning.specs.Memory.{HeapBlock, block_of, heap_block, Memory, Frame, Slot, Block, typed, slot_at, file_block, frame_block, frame_of}
 use Rattle.step_meaning.specs.Terms.{TermValue, Number, NullPointer, PointerInto, value_in_cell}
 use Rattle.step_meaning.specs.Traced.{is_program_kind, PointsIntoProgram}
 
@@ -37,6 +37,7 @@ FrameInside f = AllByRecursion BlockInside f.locals
 pub record MemoryInside (m : Memory) : Type 0 where
   pub globals : AllByRecursion BlockInside m.globals
   pub frames : AllByRecursion FrameInside m.frames
+  pub heap : AllByRecursion (λ (b : HeapBlock). BlockInside b.cells) m.heap
 
 pub typed_inside : (s : Option Slot) (u : CType) → WhereSome (λ (s : Slot). CellInside s.cell) s → WhereSome CellInside (typed s u)
 typed_inside None u h = tt
@@ -68,6 +69,18 @@ file_inside m h (suc a) i = tt
 
 pub framed_inside : (m : Memory) → MemoryInside m → (a i : ℕ) → WhereSome BlockInside (frame_block m a i)
 framed_inside m h a i = local_inside i (frame_of a m.frames) (frame_inside a m.frames h.frames)
+
+chosen_inside : (b : Bool) (x : Block) (o : Option Block) → BlockInside x → WhereSome BlockInside o → WhereSome BlockInside (cond b (Some x) o)
+chosen_inside true x o h k = h
+chosen_inside false x o h k = k
+
+numbered_inside : (n : ℕ) (bs : List HeapBlock) → AllByRecursion (λ (b : HeapBlock). BlockInside b.cells) bs → WhereSome BlockInside (block_of n bs)
+numbered_inside n [] h = tt
+numbered_inside n (b ∷ bs) h = chosen_inside (b.number == n) b.cells (block_of n bs) h.0 (numbered_inside n bs h.1)
+
+pub heaped_inside : (m : Memory) → MemoryInside m → (n i : ℕ) → WhereSome BlockInside (heap_block m n i)
+heaped_inside m h n zero = numbered_inside n m.heap h.heap
+heaped_inside m h n (suc i) = tt
 
 -- ---- values of terms and places
 
@@ -102,6 +115,7 @@ inside_seen w a (Some (PointerInto n o)) h = by n.kind h
     by : (k : NameKind) → IsTrue (is_program_kind k) → IsSeenKind w a k n.activation
     by names.Global h = tt
     by names.Local h = tt
+    by names.Heap h = tt
     by names.Register h = absurd (no h)
       where
         no : false ≡ true → ⊥

@@ -144,10 +144,10 @@ module _ (p : Core) (h : Hooks) (j : ℕ) (IsTheirs : ℕ → Type 0) (ss : List
       let Y = st.Block (woven_statement hook_points here.function true y []) in
       let k = λ (v : Value). cond (truth v) (run_statement x) (run_statement y) (source_onward D rest) in
       let k' = λ (v : Value). cond (truth v) (exec resting p.layouts woven_call here bound X) (exec resting p.layouts woven_call here bound Y) (woven_onward tail rest') in
-      let t = eval strict source_call here e k s r in
-      held_case p h j IsTheirs ss ready here outer source_call woven_call bound first (operand_value e r) k s r t (operand_strict here source_call e oe k s r) proper (SimulatedHere g good vs t (eval resting woven_call here e k' (woven_state s g) r)) (λ v ev et.
-        subst (λ t. SimulatedHere g good vs t (eval resting woven_call here e k' (woven_state s g) r)) (sym et)
-          (subst (λ u. SimulatedHere g good vs (k v s r) u) (sym (operand_run here woven_call e oe v r ev k' (woven_state s g)))
+      let t = eval strict p.layouts source_call here e k s r in
+      held_case p h j IsTheirs ss ready here outer source_call woven_call bound first (operand_value e r) k s r t (operand_strict here p.layouts source_call e oe k s r) proper (SimulatedHere g good vs t (eval resting p.layouts woven_call here e k' (woven_state s g) r)) (λ v ev et.
+        subst (λ t. SimulatedHere g good vs t (eval resting p.layouts woven_call here e k' (woven_state s g) r)) (sym et)
+          (subst (λ u. SimulatedHere g good vs (k v s r) u) (sym (operand_run here p.layouts woven_call e oe v r ev k' (woven_state s g)))
             (either (truth v) s g good vs r body opened (subst (λ t. IsProper p false t) et proper)))) }
     where
       either : (t : Bool) (s : State) (g : Memory) (good : Bool) (vs : List Verdict) (r : Registers) → InBodyHere s g → PartlyAsserted p h j IsTheirs ss ready here outer s g good vs → IsProper p false (cond t (run_statement x) (run_statement y) (source_onward D rest) s r)

@@ -81,6 +81,7 @@ module _ (q : Core) (h : Hooks) (before : ℕ → ℕ) (all : Hooks) (slots : Sl
   own_number : (f : ℕ) (k : NameKind) (i : ℕ) → IsOwnNumber h f k i → IsOwnNumber all f k (shift_index (before f) k i)
   own_number f names.Global i x = x
   own_number f names.Local i x = x
+  own_number f names.Heap i x = x
   own_number f names.Register i x = x
   own_number f names.GhostLocal i x = within (saves_of h.points f) (saves_of all.points f) i (before f + i) x (slots.saves f i x)
   own_number f names.GhostGlobal i x = (low, high)
@@ -101,6 +102,7 @@ module _ (q : Core) (h : Hooks) (before : ℕ → ℕ) (all : Hooks) (slots : Sl
   usable_number : (f : ℕ) (k : NameKind) (i : ℕ) → IsUsableKind h f k i → IsUsableKind all f k (shift_index (before f) k i)
   usable_number f names.Global i x = tt
   usable_number f names.Local i x = x
+  usable_number f names.Heap i x = x
   usable_number f names.Register i x = x
   usable_number f names.GhostLocal i x = own_number f names.GhostLocal i x
   usable_number f names.GhostGlobal i x = own_number f names.GhostGlobal i x
@@ -108,6 +110,7 @@ module _ (q : Core) (h : Hooks) (before : ℕ → ℕ) (all : Hooks) (slots : Sl
   types : (f : ℕ) (k : NameKind) (i : ℕ) → IsUsableKind h f k i → variable_type (hook_setting q all f) (record { kind = k; index = shift_index (before f) k i }) ≡ variable_type (hook_setting q h f) (record { kind = k; index = i })
   types f names.Global i x = refl
   types f names.Local i x = absurd x
+  types f names.Heap i x = absurd x
   types f names.Register i x = absurd x
   types f names.GhostLocal i x = ap (λ o. option_map (λ (d : Declared). d.ctype) o) (slots.saves f i x)
   types f names.GhostGlobal i x = ap (λ o. option_map (λ (d : Declared). d.ctype) o) same

@@ -15,8 +15,9 @@ use Rattle.step_meaning.specs.declared.expr.UpdateOp.{UpdateOp}
 use Rattle.step_meaning.specs.declared.expr.UpdateOp.TheVariants.{Integer, Forward, Backward}
 use Rattle.step_meaning.specs.declared.expr.Variable.{Variable}
 use Rattle.step_meaning.specs.declared.expr.Expr.{Expr, end_of-Expr, more_of-Expr}
-use Rattle.step_meaning.specs.declared.expr.Expr.TheVariants.{Literal, Null, Load, Address, Convert', Unary', Binary', Compare', Move', Difference', Not', Both', Either', Choose', Assign', Update', Invoke', GetChar, PutChar', Discard', Own, Deref', Member', Index'}
+use Rattle.step_meaning.specs.declared.expr.Expr.TheVariants.{Literal, Null, Load, Address, Convert', Unary', Binary', Compare', Move', Difference', Not', Both', Either', Choose', Assign', Update', Invoke', GetChar, PutChar', Malloc', Free', Discard', Own, Deref', Member', Index'}
 use Rattle.step_meaning.specs.declared.expr.Place_.{Place_, end_of-Place_, more_of-Place_}
+use Rattle.step_meaning.specs.declared.program.Layout.{Layout}
 use Rattle.step_meaning.specs.Numbers.{converted, binary_of}
 use Rattle.step_meaning.specs.Names.{truth, of_truth, integer, moved, is_register_variable, name_in}
 use Rattle.step_meaning.specs.Memory.{Memory, room_at}
@@ -115,18 +116,18 @@ module _ (here : Here) where
   silent_store : (t : CType) (i : ℕ) (v : Value) → Silent (acc.store strict here t (InRegister i) v) (acc.store resting here t (InRegister i) v)
   silent_store t i v = record { by = λ s G r P rest rest' k halt none. (silent_write i v (register_at r i t)).by s G r P rest rest' k halt none }
 
-  module _ (source_call woven_call : ℕ → List Value → RestingCall) where
+  module _ (layouts : List Layout) (source_call woven_call : ℕ → List Value → RestingCall) where
     abbrev pub source_value : Expr → Resting Value
-    source_value = eval strict source_call here
+    source_value = eval strict layouts source_call here
 
     abbrev pub woven_value : Expr → Resting Value
-    woven_value = eval resting woven_call here
+    woven_value = eval resting layouts woven_call here
 
     abbrev source_place : Place_ → Resting Lvalue
-    source_place = place strict source_call here
+    source_place = place strict layouts source_call here
 
     abbrev woven_place : Place_ → Resting Lvalue
-    woven_place = place resting woven_call here
+    woven_place = place resting layouts woven_call here
 
     in_register : (v : Variable) → is_register_variable v ≡ true → designated here.activation v 0 ≡ InRegister v.index
     in_register v e = ap (λ b. cond b (InRegister v.index) (At (value.Pointer (name_in here.activation v) 0))) e
@@ -167,6 +168,8 @@ module _ (here : Here) where
       silent_eval (Invoke' f b es) h = absurd (no_false h)
       silent_eval GetChar h = absurd (no_false h)
       silent_eval (PutChar' b (more_of-Expr e end_of-Expr)) h = absurd (no_false h)
+      silent_eval (Malloc' b (more_of-Expr e end_of-Expr) t) h = absurd (no_false h)
+      silent_eval (Free' b (more_of-Expr e end_of-Expr)) h = absurd (no_false h)
       silent_eval (Discard' b (more_of-Expr e end_of-Expr)) h = silent_bind (silent_eval e h) (λ v. silent_pure _)
 
       silent_place : (q : Place_) → is_silent_place q ≡ true → Silent (source_place q) (woven_place q)

@@ -77,7 +77,7 @@ module _ (p : Core) (h : Hooks) (j : ℕ) (IsTheirs : ℕ → Type 0) (ss : List
         let woven_left = woven_leaves p h j IsTheirs ss ready n f found source_call woven_call alike k body b.normal b.scalars b.ends s g outer (n == p.start) f.result rest rest' caller in
         let W = woven_all h.points n body (code_at_end p h n f) in
         let C = code_for h.points n place.Enter in
-        let woven_from = opened p h j IsTheirs ss ready n f found vs (record { globals = g.globals; frames = new_frame p h j IsTheirs ss ready n f found source_call woven_call alike k body b.normal b.scalars b.ends s ∷ outer }) s in
+        let woven_from = opened p h j IsTheirs ss ready n f found vs (record g { frames = new_frame p h j IsTheirs ss ready n f found source_call woven_call alike k body b.normal b.scalars b.ends s ∷ outer }) s in
         let source_run = λ (an : List Stmt) (af : List Stmt). exec_all strict p.layouts source_call here k an (λ c s r. Then (step_by here (act.Enter n vs) s.memory) (exec_all strict p.layouts source_call here k af source_left s r)) s1 r0 in
         let woven_run = λ (an : List Stmt) (af : List Stmt). exec_all resting p.layouts woven_call here k an (λ c s r. Then (step_by here (act.Enter n vs) s.memory) (exec_all resting p.layouts woven_call here k af woven_left s r)) woven_from r0 in
         let goal = λ (an : List Stmt) (af : List Stmt) (an' : List Stmt) (af' : List Stmt). IsProper p false (source_run an af) → SimulatedHere g good [] (source_run an af) (woven_run an' af') in
@@ -131,6 +131,6 @@ module _ (p : Core) (h : Hooks) (j : ℕ) (IsTheirs : ℕ → Type 0) (ss : List
     -- a whole run, where the ghost variables of file scope are numbered from 0
     pub run_simulated : h.first ≡ 0 → (input : List ℕ) → IsProper p false (strict_run p input k) → SimulatedHere (start_cells p h) true [] (strict_run p input k) (run q input k)
     run_simulated zero_first input proper =
-        let begin : Memory = record { globals = map (ghost_block p.layouts) h.globals; frames = [] } in
-        subst (λ g. SimulatedHere g true [] (strict_run p input k) (run q input k)) (sym (ap (λ n. let m : Memory = record { globals = replicate n [] ++ map (ghost_block p.layouts) h.globals; frames = [] } in m) zero_first))
-          ((calls_simulated k).by p.start [] (start_state p input) begin [] true (record { globals = start_inside h.globals; frames = tt }) tt (λ v s. Stop (exit_of v)) (λ v s. Stop (exit_of v)) (λ v s g good i b l e f. (refl, λ e. refl)) proper)
+        let begin : Memory = record { globals = map (ghost_block p.layouts) h.globals; frames = []; heap = [] } in
+        subst (λ g. SimulatedHere g true [] (strict_run p input k) (run q input k)) (sym (ap (λ n. let m : Memory = record { globals = replicate n [] ++ map (ghost_block p.layouts) h.globals; frames = []; heap = [] } in m) zero_first))
+          ((calls_simulated k).by p.start [] (start_state p input) begin [] true (record { globals = start_inside h.globals; frames = tt; heap = tt }) tt (λ v s. Stop (exit_of v)) (λ v s. Stop (exit_of v)) (λ v s g good i b l e f. (refl, λ e. refl)) proper)

@@ -247,8 +247,8 @@ module _ (p : Core) (h : Hooks) (j : ℕ) (IsTheirs : ℕ → Type 0) (ss : List
   write_simulated q u b d oq od sc D tail rest rest' simulated = record { by = λ s g good vs r body opened proper.
       let t = then_do (exec strict p.layouts source_call here bound (Eval (ex.Assign' q u b (more_of-Expr d end_of-Expr)))) D rest s r in
       let goal = SimulatedHere g good vs t (run_woven (code_before h.points here.function place.Write (access_substitution q u) ++ (Eval (ex.Assign' q u b (more_of-Expr d end_of-Expr)) ∷ tail)) rest' (woven_state s g) r) in
-      held_case (place_value here q r) (λ w. eval strict source_call here d (λ v. store strict here u (At w) v (λ x. D rest))) s r t (place_strict here source_call q oq (λ l. eval strict source_call here d (λ v. store strict here u l v (λ x. D rest))) s r) proper goal (λ w ew et.
-      held_case (operand_value d r) (λ v. store strict here u (At w) v (λ x. D rest)) s r t (et ∙ operand_strict here source_call d od (λ v. store strict here u (At w) v (λ x. D rest)) s r) proper goal (λ v ev et'.
+      held_case (place_value here q r) (λ w. eval strict p.layouts source_call here d (λ v. store strict here u (At w) v (λ x. D rest))) s r t (place_strict here p.layouts source_call q oq (λ l. eval strict p.layouts source_call here d (λ v. store strict here u l v (λ x. D rest))) s r) proper goal (λ w ew et.
+      held_case (operand_value d r) (λ v. store strict here u (At w) v (λ x. D rest)) s r t (et ∙ operand_strict here p.layouts source_call d od (λ v. store strict here u (At w) v (λ x. D rest)) s r) proper goal (λ v ev et'.
         let a = act.Write w v in
         let t' = write_at strict here w v (reached s.memory w u) (λ x. D rest) s r in
         let proper' : IsProper p false (Then (Made (step_here a s)) t') = subst (λ t. IsProper p false t) et' proper in
@@ -258,7 +258,7 @@ module _ (p : Core) (h : Hooks) (j : ℕ) (IsTheirs : ℕ → Type 0) (ss : List
         subst (λ t. SimulatedHere g good vs t (run_woven (code_before h.points here.function place.Write (access_substitution q u) ++ (Eval (ex.Assign' q u b (more_of-Expr d end_of-Expr)) ∷ tail)) rest' (woven_state s g) r)) (sym et')
           (announce p h j IsTheirs ss ready here outer a refl s r (access_substitution q u) m_in substitutes woven_call bound first g good vs body opened t' (Eval (ex.Assign' q u b (more_of-Expr d end_of-Expr)) ∷ tail) rest'
             (λ G. write_at resting here w v (reached s.memory w u) (λ x. run_woven tail rest') (record s { ghosts = G }) r)
-            (λ G. place_run here woven_call q oq w r ew (λ l. eval resting woven_call here d (λ v. store resting here u l v (λ x. run_woven tail rest'))) (record s { ghosts = G })
-                ∙ operand_run here woven_call d od v r ev (λ v. store resting here u (At w) v (λ x. run_woven tail rest')) (record s { ghosts = G }))
+            (λ G. place_run here p.layouts woven_call q oq w r ew (λ l. eval resting p.layouts woven_call here d (λ v. store resting here u l v (λ x. run_woven tail rest'))) (record s { ghosts = G })
+                ∙ operand_run here p.layouts woven_call d od v r ev (λ v. store resting here u (At w) v (λ x. run_woven tail rest')) (record s { ghosts = G }))
             (write_on (reached s.memory w u) D tail rest rest' simulated s (ghosts_here a s g) (all_safe j (verdicts_here a s g) && good) r w v body' (asserted_after p h j IsTheirs ss ready here outer a refl s r (access_substitution q u) m_in substitutes first g good body) proper'.1))))
   }

@@ -1,6 +1,6 @@
 -- Steps that give a value: a read, input and output, in the source and, with the code before them, in the woven program.
 use Rattle.std.specs.List.{AllByRecursion}
-use Rattle.std.proofs.Common.{◌≡◌, ℕ, Bool, true, false, ◌&&◌, List, [], ◌∷◌, ◌++◌, Option, Some, None, refl, sym, subst, ◌∙◌}
+use Rattle.std.proofs.Common.{length, suc, ◌≡◌, ℕ, Bool, true, false, ◌&&◌, List, [], ◌∷◌, ◌++◌, Option, Some, None, refl, sym, subst, ◌∙◌}
 use Rattle.std.specs.Prelude.{pos, negsuc, ◌%◌}
 use Rattle.step_meaning.specs.declared.value.Value.{Value}
 use Rattle.step_meaning.specs.declared.value.Action.{Action}
@@ -18,7 +18,8 @@ use Rattle.step_meaning.specs.declared.value.RunFault.TheVariants as fault
 use Rattle.step_meaning.specs.declared.expr.Expr.{Expr, end_of-Expr, more_of-Expr}
 use Rattle.step_meaning.specs.declared.expr.Expr.TheVariants as ex
 use Rattle.step_meaning.specs.declared.expr.Place_.{Place_}
-use Rattle.step_meaning.specs.Memory.{Memory, Frame, reached}
+use Rattle.step_meaning.specs.Allocation as al
+use Rattle.step_meaning.specs.Memory.{Block, with_block, freed, Memory, Frame, reached}
 use Rattle.step_meaning.specs.Steps.{Step, Verdict, Made, Trace, Then}
 use Rattle.step_meaning.specs.State.{State, Here, Registers, InRegister, At, register_at, set_register}
 use Rattle.step_meaning.specs.StepViews.{called_by}
@@ -103,9 +104,9 @@ module _ (p : Core) (h : Hooks) (j : ℕ) (IsTheirs : ℕ → Type 0) (ss : List
   -- what is shown of the step that gives a value: its code stands before the statements T, which evaluate the expression
   abbrev pub ValueGiven : Expr → HookPlace → Substitution → Type 0
   ValueGiven e pl st =
-      (k k' : Value → State → Registers → Trace) → ValueTaken k k' → (T : List Stmt) (rest' : Completion → State → Registers → Trace) → ((s : State) (r : Registers) → run_woven T rest' s r ≡ eval resting woven_call here e k' s r)
-      → (s : State) (g : Memory) (good : Bool) (vs : List Verdict) (r : Registers) → InBodyHere s g → PartlyAssertedHere s g good vs → IsProper p false (eval strict source_call here e k s r)
-      → SimulatedHere g good vs (eval strict source_call here e k s r) (run_woven (code_before h.points here.function pl st ++ T) rest' (woven_state s g) r)
+      (k k' : Value → State → Registers → Trace) → ValueTaken k k' → (T : List Stmt) (rest' : Completion → State → Registers → Trace) → ((s : State) (r : Registers) → run_woven T rest' s r ≡ eval resting p.layouts woven_call here e k' s r)
+      → (s : State) (g : Memory) (good : Bool) (vs : List Verdict) (r : Registers) → InBodyHere s g → PartlyAssertedHere s g good vs → IsProper p false (eval strict p.layouts source_call here e k s r)
+      → SimulatedHere g good vs (eval strict p.layouts source_call here e k s r) (run_woven (code_before h.points here.function pl st ++ T) rest' (woven_state s g) r)
 
   -- ---- a read
 
@@ -131,9 +132,9 @@ module _ (p : Core) (h : Hooks) (j : ℕ) (IsTheirs : ℕ → Type 0) (ss : List
 
   pub read_gives : (q : Place_) (u : CType) → is_plain_place q ≡ true → is_scalar u ≡ true → ValueGiven (ex.Load q u) place.Read (access_substitution q u)
   read_gives q u oq sc k k' takes T rest' runs s g good vs r body opened proper =
-      let t = eval strict source_call here (ex.Load q u) k s r in
+      let t = eval strict p.layouts source_call here (ex.Load q u) k s r in
       let T' = code_before h.points here.function place.Read (access_substitution q u) ++ T in
-      held_case p h j IsTheirs ss ready here outer source_call woven_call bound first (place_value here q r) (λ w. load strict here u (At w) k) s r t (place_strict here source_call q oq (λ l. load strict here u l k) s r) proper (SimulatedHere g good vs t (run_woven T' rest' (woven_state s g) r)) (λ w ew et.
+      held_case p h j IsTheirs ss ready here outer source_call woven_call bound first (place_value here q r) (λ w. load strict here u (At w) k) s r t (place_strict here p.layouts source_call q oq (λ l. load strict here u l k) s r) proper (SimulatedHere g good vs t (run_woven T' rest' (woven_state s g) r)) (λ w ew et.
         let a = act.Read w in
         let t' = held strict here (reached s.memory w u) k s r in
         let proper' : IsProper p false (Then (Made (step_here a s)) t') = subst (λ t. IsProper p false t) et proper in
@@ -143,7 +144,7 @@ module _ (p : Core) (h : Hooks) (j : ℕ) (IsTheirs : ℕ → Type 0) (ss : List
         subst (λ t. SimulatedHere g good vs t (run_woven T' rest' (woven_state s g) r)) (sym et)
           (announce p h j IsTheirs ss ready here outer a refl s r (access_substitution q u) m_in substitutes woven_call bound first g good vs body opened t' T rest'
             (λ G. held resting here (reached s.memory w u) k' (record s { ghosts = G }) r)
-            (λ G. runs (record s { ghosts = G }) r ∙ place_run here woven_call q oq w r ew (λ l. load resting here u l k') (record s { ghosts = G }))
+            (λ G. runs (record s { ghosts = G }) r ∙ place_run here p.layouts woven_call q oq w r ew (λ l. load resting here u l k') (record s { ghosts = G }))
             (read_on (reached s.memory w u) k k' takes s (ghosts_here a s g) (all_safe j (verdicts_here a s g) && good) r body' (asserted_after p h j IsTheirs ss ready here outer a refl s r (access_substitution q u) m_in substitutes first g good body) proper'.1)))
 
   -- ---- calls, input and output
@@ -180,9 +181,9 @@ module _ (p : Core) (h : Hooks) (j : ℕ) (IsTheirs : ℕ → Type 0) (ss : List
   pub output_gives : (b : _) (d : Expr) → is_operand d ≡ true → ValueGiven (ex.PutChar' b (more_of-Expr d end_of-Expr)) place.Call (call_substitution 1)
   output_gives b d od k k' takes T rest' runs s g good vs r body opened proper =
       let e = ex.PutChar' b (more_of-Expr d end_of-Expr) in
-      let t = eval strict source_call here e k s r in
+      let t = eval strict p.layouts source_call here e k s r in
       let T' = code_before h.points here.function place.Call (call_substitution 1) ++ T in
-      held_case p h j IsTheirs ss ready here outer source_call woven_call bound first (operand_value d r) (λ v. acc.put_char strict here v k) s r t (operand_strict here source_call d od (λ v. acc.put_char strict here v k) s r) proper (SimulatedHere g good vs t (run_woven T' rest' (woven_state s g) r)) (λ v ev et.
+      held_case p h j IsTheirs ss ready here outer source_call woven_call bound first (operand_value d r) (λ v. acc.put_char strict here v k) s r t (operand_strict here p.layouts source_call d od (λ v. acc.put_char strict here v k) s r) proper (SimulatedHere g good vs t (run_woven T' rest' (woven_state s g) r)) (λ v ev et.
         let n = low_bits 8 (integer v) in
         let a = act.Output n in
         let t' = k (value.Int (pos n)) s r in
@@ -194,5 +195,70 @@ module _ (p : Core) (h : Hooks) (j : ℕ) (IsTheirs : ℕ → Type 0) (ss : List
         subst (λ t. SimulatedHere g good vs t (run_woven T' rest' (woven_state s g) r)) (sym et)
           (announce p h j IsTheirs ss ready here outer a refl s r (call_substitution 1) m_in substitutes woven_call bound first g good vs body opened t' T rest'
             (λ G. k' (value.Int (pos n)) (record s { ghosts = G }) r)
-            (λ G. runs (record s { ghosts = G }) r ∙ operand_run here woven_call d od v r ev (λ v. acc.put_char resting here v k') (record s { ghosts = G }))
+            (λ G. runs (record s { ghosts = G }) r ∙ operand_run here p.layouts woven_call d od v r ev (λ v. acc.put_char resting here v k') (record s { ghosts = G }))
             (takes.by (value.Int (pos n)) s g' good' [] r (stepped p h j IsTheirs ss ready here outer a refl s r (call_substitution 1) m_in substitutes first g body) (exact_open p h j IsTheirs ss ready here outer s g' good') proper'.1)))
+
+  -- ---- `malloc` and `free`
+
+  block_gives : (n : ℕ) (o : Option Block) (k k' : Value → State → Registers → Trace) → ValueTaken k k' → (T : List Stmt) (rest' : Completion → State → Registers → Trace) (s : State) (r : Registers)
+      → ((G : Memory) → run_woven T rest' (record s { ghosts = G }) r ≡ al.allocate_block resting here n o k' (record s { ghosts = G }) r)
+      → (g : Memory) (good : Bool) (vs : List Verdict) → InBodyHere s g → PartlyAssertedHere s g good vs → IsProper p false (al.allocate_block strict here n o k s r)
+      → SimulatedHere g good vs (al.allocate_block strict here n o k s r) (run_woven (code_before h.points here.function place.Call (call_substitution 2) ++ T) rest' (woven_state s g) r)
+  block_gives n None k k' takes T rest' s r runs g good vs body opened proper =
+      let a = act.Malloc n value.Null 0 in
+      let substitutes = call_substitutes a 2 refl refl s r in
+      let m_in = step_inside p (step_here a s) proper.0 in
+      let g' = ghosts_here a s g in
+      let good' = all_safe j (verdicts_here a s g) && good in
+      announce p h j IsTheirs ss ready here outer a refl s r (call_substitution 2) m_in substitutes woven_call bound first g good vs body opened (k value.Null s r) T rest' (λ G. k' value.Null (record s { ghosts = G }) r) runs
+        (takes.by value.Null s g' good' [] r (stepped p h j IsTheirs ss ready here outer a refl s r (call_substitution 2) m_in substitutes first g body) (exact_open p h j IsTheirs ss ready here outer s g' good') proper.1)
+  block_gives n (Some c) k k' takes T rest' s r runs g good vs body opened proper =
+      let v = al.block_pointer s.allocated in
+      let a = act.Malloc n v (length c) in
+      let s' : State = record s { memory = with_block s.allocated c s.memory; allocated = suc s.allocated } in
+      let substitutes = call_substitutes a 2 refl refl s r in
+      let m_in = step_inside p (step_here a s) proper.0 in
+      let g' = ghosts_here a s g in
+      let good' = all_safe j (verdicts_here a s g) && good in
+      let b = stepped p h j IsTheirs ss ready here outer a refl s r (call_substitution 2) m_in substitutes first g body in
+      announce p h j IsTheirs ss ready here outer a refl s r (call_substitution 2) m_in substitutes woven_call bound first g good vs body opened (k v s' r) T rest' (λ G. k' v (record s' { ghosts = G }) r) runs
+        (takes.by v s' g' good' [] r (record { inside = b.inside; own = b.own; below = b.below; bounded = b.bounded; later = b.later }) (exact_open p h j IsTheirs ss ready here outer s' g' good') proper.1)
+
+  pub malloc_gives : (b : _) (d : Expr) (u : CType) → is_operand d ≡ true → ValueGiven (ex.Malloc' b (more_of-Expr d end_of-Expr) u) place.Call (call_substitution 2)
+  malloc_gives b d u od k k' takes T rest' runs s g good vs r body opened proper =
+      let e = ex.Malloc' b (more_of-Expr d end_of-Expr) u in
+      let t = eval strict p.layouts source_call here e k s r in
+      let T' = code_before h.points here.function place.Call (call_substitution 2) ++ T in
+      held_case p h j IsTheirs ss ready here outer source_call woven_call bound first (operand_value d r) (λ v. al.allocate strict here p.layouts u v k) s r t (operand_strict here p.layouts source_call d od (λ v. al.allocate strict here p.layouts u v k) s r) proper (SimulatedHere g good vs t (run_woven T' rest' (woven_state s g) r)) (λ v ev et.
+        let n = low_bits 64 (integer v) in
+        let o = al.block_for p.layouts u n in
+        subst (λ t. SimulatedHere g good vs t (run_woven T' rest' (woven_state s g) r)) (sym et)
+          (block_gives n o k k' takes T rest' s r
+            (λ G. runs (record s { ghosts = G }) r ∙ operand_run here p.layouts woven_call d od v r ev (λ v. al.allocate resting here p.layouts u v k') (record s { ghosts = G }))
+            g good vs body opened (subst (λ t. IsProper p false t) et proper)))
+
+  -- a `free` that is a fault has a Halt step in the memory of its Free step
+  release_on : (o : Option Memory) (k k' : Value → State → Registers → Trace) → ValueTaken k k' → (s : State) (g : Memory) (good : Bool) (r : Registers) → InBodyHere s g → AssertedHere s g good []
+      → IsProper p false (al.release_to strict here o k s r) → SimulatedHere g good [] (al.release_to strict here o k s r) (al.release_to resting here o k' (woven_state s g) r)
+  release_on None k k' takes s g good r b a f = halted p h j IsTheirs ss ready here outer source_call woven_call bound first s g good [] b a fault.BadFree f
+  release_on (Some m) k k' takes s g good r b a f =
+      let s' : State = record s { memory = m } in
+      takes.by (value.Int (pos 0)) s' g good [] r (record { inside = b.inside; own = b.own; below = b.below; bounded = b.bounded; later = b.later }) (exact_open p h j IsTheirs ss ready here outer s' g good) f
+
+  pub free_gives : (b : _) (d : Expr) → is_operand d ≡ true → ValueGiven (ex.Free' b (more_of-Expr d end_of-Expr)) place.Call (call_substitution 3)
+  free_gives b d od k k' takes T rest' runs s g good vs r body opened proper =
+      let e = ex.Free' b (more_of-Expr d end_of-Expr) in
+      let t = eval strict p.layouts source_call here e k s r in
+      let T' = code_before h.points here.function place.Call (call_substitution 3) ++ T in
+      held_case p h j IsTheirs ss ready here outer source_call woven_call bound first (operand_value d r) (λ v. al.release strict here v k) s r t (operand_strict here p.layouts source_call d od (λ v. al.release strict here v k) s r) proper (SimulatedHere g good vs t (run_woven T' rest' (woven_state s g) r)) (λ v ev et.
+        let a = act.Free v in
+        let t' = al.release_to strict here (freed s.memory v) k s r in
+        let proper' : IsProper p false (Then (Made (step_here a s)) t') = subst (λ t. IsProper p false t) et proper in
+        let substitutes = call_substitutes a 3 refl refl s r in
+        let m_in = step_inside p (step_here a s) proper'.0 in
+        let b' = stepped p h j IsTheirs ss ready here outer a refl s r (call_substitution 3) m_in substitutes first g body in
+        subst (λ t. SimulatedHere g good vs t (run_woven T' rest' (woven_state s g) r)) (sym et)
+          (announce p h j IsTheirs ss ready here outer a refl s r (call_substitution 3) m_in substitutes woven_call bound first g good vs body opened t' T rest'
+            (λ G. al.release_to resting here (freed s.memory v) k' (record s { ghosts = G }) r)
+            (λ G. runs (record s { ghosts = G }) r ∙ operand_run here p.layouts woven_call d od v r ev (λ v. al.release resting here v k') (record s { ghosts = G }))
+            (release_on (freed s.memory v) k k' takes s (ghosts_here a s g) (all_safe j (verdicts_here a s g) && good) r b' (asserted_after p h j IsTheirs ss ready here outer a refl s r (call_substitution 3) m_in substitutes first g good body) proper'.1)))
