@@ -16,9 +16,7 @@ use Rattle.weaver_laws.specs.Weaving.{Substitution, substitute_predicate, substi
 use Rattle.weaver_laws.proofs.InsideMemories.{BlockInside}
 use Rattle.weaver_laws.proofs.ActivationSteps.{numbers}
 use Rattle.weaver_laws.proofs.ScalarAccesses.{scalars_in_all}
-
-no_true : {A : Type 0} → false ≡ true → A
-no_true e = cc
+use Rattle.weaver_laws.proofs.Basics.{no_true}
 
 -- ---- the annotations that begin a body
 

@@ -49,20 +49,7 @@ use Rattle.weaver_laws.proofs.SilentExpressions.{silent_eval}
 use Rattle.weaver_laws.proofs.StepStatements.{assert_changed, halted, ExitsSimulated, PartSimulated, held_case, write_simulated, pointer_inside}
 use Rattle.weaver_laws.proofs.ValueSteps.{register_takes, nothing_takes, ValueGiven, read_gives, input_gives, output_gives, malloc_gives, free_gives, call_substitutes}
 use Rattle.weaver_laws.proofs.ScalarAccesses.{has_scalar_access, has_scalars}
-
-some_is : {A : Type 0} (x y : A) → Some x ≡ Some y → x ≡ y
-some_is x y e = cc
-
-no_true : {A : Type 0} → false ≡ true → A
-no_true e = cc
-
-and_left : (a b : Bool) → (a && b) ≡ true → a ≡ true
-and_left true b e = refl
-and_left false b e = e
-
-and_right : (a b : Bool) → (a && b) ≡ true → b ≡ true
-and_right true b e = e
-and_right false b e = no_true e
+use Rattle.weaver_laws.proofs.Basics.{no_true, and_left, and_right}
 
 module _ (p : Core) (h : Hooks) (j : ℕ) (IsTheirs : ℕ → Type 0) (ss : List Step) (ready : AllByRecursion (PointReady p h j IsTheirs ss) h.points) (here : Here) (outer : List Frame)
     (source_call woven_call : ℕ → List Value → RestingCall) (bound : ℕ) (first : Memory) (alike : CallsSimulated p h j IsTheirs ss source_call woven_call) where

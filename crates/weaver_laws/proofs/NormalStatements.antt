@@ -1,6 +1,6 @@
 -- All statements of a normal body, in the source and in the woven program.
 use Rattle.std.specs.List.{AllByRecursion}
-use Rattle.std.proofs.Common.{◌≡◌, ℕ, zero, suc, Bool, true, false, cond, ◌&&◌, ◌==◌, List, [], ◌∷◌, Option, Some, refl, sym, subst, ap, append-nil}
+use Rattle.std.proofs.Common.{◌≡◌, ℕ, zero, suc, Bool, true, false, cond, ◌&&◌, ◌==◌, List, [], ◌∷◌, Option, refl, sym, subst, ap, append-nil}
 use Rattle.std.specs.Prelude.{pos, negsuc}
 use Rattle.std.proofs.lemmas.Bool.{eqb-true}
 use mathlib.Core.Path.{fun_ext}
@@ -38,20 +38,7 @@ use Rattle.weaver_laws.proofs.Operands.{operand_value, operand_strict, operand_r
 use Rattle.weaver_laws.proofs.StepStatements.{assert_changed, turned, ExitsSimulated, PartSimulated, held_case}
 use Rattle.weaver_laws.proofs.ScalarAccesses.{scalars_in, scalars_in_row, has_scalars, scalars_in_all}
 use Rattle.weaver_laws.proofs.ExpressionStatements.{eval_simulated, return_simulated}
-
-some_is : {A : Type 0} (x y : A) → Some x ≡ Some y → x ≡ y
-some_is x y e = cc
-
-no_true : {A : Type 0} → false ≡ true → A
-no_true e = cc
-
-and_left : (a b : Bool) → (a && b) ≡ true → a ≡ true
-and_left true b e = refl
-and_left false b e = e
-
-and_right : (a b : Bool) → (a && b) ≡ true → b ≡ true
-and_right true b e = e
-and_right false b e = no_true e
+use Rattle.weaver_laws.proofs.Basics.{no_true, and_left, and_right}
 
 module _ (p : Core) (h : Hooks) (j : ℕ) (IsTheirs : ℕ → Type 0) (ss : List Step) (ready : AllByRecursion (PointReady p h j IsTheirs ss) h.points) (here : Here) (outer : List Frame)
     (source_call woven_call : ℕ → List Value → RestingCall) (bound : ℕ) (first : Memory) (alike : CallsSimulated p h j IsTheirs ss source_call woven_call) where

@@ -9,9 +9,7 @@ use Rattle.step_meaning.specs.Memory.{Memory, Frame, Block, frame_block, frame_o
 use Rattle.step_meaning.specs.Ghosts.{ghost_put}
 use Rattle.step_meaning.specs.Steps.{Verdict}
 use Rattle.weaver_laws.proofs.GhostFrames.{others_put, own_frame_after, frame_after, with_locals, number_same}
-
-pub no_true : {A : Type 0} → false ≡ true → A
-no_true e = cc
+use Rattle.weaver_laws.proofs.Basics.{no_true}
 
 -- ---- the verdicts of a monitor
 

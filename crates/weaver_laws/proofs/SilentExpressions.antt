@@ -1,5 +1,5 @@
 -- Expressions that make no step: from the same memory and registers both programs come to the same.
-use Rattle.std.proofs.Common.{◌≡◌, ℕ, Bool, true, false, cond, ◌&&◌, List, Option, Some, None, Result, Ok, Err, refl, sym, subst, ap}
+use Rattle.std.proofs.Common.{◌≡◌, ℕ, Bool, true, false, cond, ◌&&◌, List, Option, Some, None, Result, Ok, Err, sym, subst, ap}
 use Rattle.std.specs.Prelude.{ℤ}
 use Rattle.step_meaning.specs.declared.value.CType.{CType}
 use Rattle.step_meaning.specs.declared.value.Value.{Value}
@@ -29,20 +29,10 @@ use Rattle.step_meaning.specs.Expressions.{eval, place}
 use Rattle.step_meaning.specs.ExpressionTypes.{is_register}
 use Rattle.step_meaning.specs.Normal.{is_silent, is_silent_place}
 use Rattle.step_meaning.specs.Strict.{strict}
+use Rattle.weaver_laws.proofs.Basics.{and_left, and_right}
 
 no_false : false ≡ true → ⊥
 no_false e = cc
-
-no_true : {A : Type 0} → false ≡ true → A
-no_true e = cc
-
-and_left : (a b : Bool) → (a && b) ≡ true → a ≡ true
-and_left true b e = refl
-and_left false b e = e
-
-and_right : (a b : Bool) → (a && b) ≡ true → b ≡ true
-and_right true b e = e
-and_right false b e = no_true e
 
 module _ (here : Here) where
   pub record Silent {A : Type 0} (d d' : Resting A) : Type 1 where

@@ -38,9 +38,7 @@ use Rattle.weaver_laws.proofs.ScalarAccesses.{scalars_in_all}
 use Rattle.weaver_laws.proofs.EnterSteps.{opened}
 use Rattle.weaver_laws.proofs.Activations.{new_frame, source_leaves, woven_leaves, entered_simulated}
 use Rattle.weaver_laws.proofs.BodyBeginnings.{source_begins, source_goes_on, woven_begins, woven_goes_on}
-
-no_true : {A : Type 0} → false ≡ true → A
-no_true e = cc
+use Rattle.weaver_laws.proofs.Basics.{no_true}
 
 -- ---- functions by their numbers
 

@@ -47,12 +47,7 @@ use Rattle.weaver_laws.proofs.TraceSimulation.{all_safe, all_safe_append, accept
 use Rattle.weaver_laws.proofs.ChangedCode.{place_of, PointReady, changed_substitutes, AreChangedAssertions, changed_assertions, assertions_ghosts, assertions_accept, assertions_same}
 use Rattle.weaver_laws.proofs.ActivationSteps.{no_parts, invariant_truth, PartlyAsserted, Asserted, InBody, step, fold_verdicts, fold_ghosts, verdicts_are, ghosts_are, asserted_so, exact_open, stepped, asserted_after, announce}
 use Rattle.weaver_laws.proofs.Operands.{step_inside, operand_value, where_held, place_value, operand_strict, operand_run, place_strict, place_run, place_term}
-
-some_is : {A : Type 0} (x y : A) → Some x ≡ Some y → x ≡ y
-some_is x y e = cc
-
-no_true : {A : Type 0} → false ≡ true → A
-no_true e = cc
+use Rattle.weaver_laws.proofs.Basics.{no_true}
 
 module _ (p : Core) (h : Hooks) (j : ℕ) (IsTheirs : ℕ → Type 0) (ss : List Step) (ready : AllByRecursion (PointReady p h j IsTheirs ss) h.points) (here : Here) (outer : List Frame)
     (source_call woven_call : ℕ → List Value → RestingCall) (bound : ℕ) (first : Memory) where

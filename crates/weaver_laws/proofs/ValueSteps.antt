@@ -42,12 +42,7 @@ use Rattle.weaver_laws.proofs.ChangedCode.{place_of, PointReady}
 use Rattle.weaver_laws.proofs.ActivationSteps.{PartlyAsserted, Asserted, InBody, step, fold_verdicts, fold_ghosts, exact_open, stepped, asserted_after, announce}
 use Rattle.weaver_laws.proofs.Operands.{step_inside, operand_value, place_value, operand_strict, operand_run, place_strict, place_run, place_term}
 use Rattle.weaver_laws.proofs.StepStatements.{halted, PartSimulated, held_case, scalar_one, pointer_inside}
-
-some_is : {A : Type 0} (x y : A) → Some x ≡ Some y → x ≡ y
-some_is x y e = cc
-
-no_true : {A : Type 0} → false ≡ true → A
-no_true e = cc
+use Rattle.weaver_laws.proofs.Basics.{no_true}
 
 module _ (p : Core) (h : Hooks) (j : ℕ) (IsTheirs : ℕ → Type 0) (ss : List Step) (ready : AllByRecursion (PointReady p h j IsTheirs ss) h.points) (here : Here) (outer : List Frame)
     (source_call woven_call : ℕ → List Value → RestingCall) (bound : ℕ) (first : Memory) where
