@@ -32,6 +32,10 @@ pub mod FormedFunctions
 pub mod AnnotationExamples
 pub mod FoldExamples
 pub mod HeapExamples
+pub mod OrderExamples
+pub mod GhostExamples
+pub mod SettingExamples
+pub mod AgreementExamples
 pub mod FitExamples
 pub mod IntervalEnds
 pub mod ValuesInside
