@@ -211,7 +211,7 @@ module _ (R : ℕ → Trace → Trace → Type 0) (counts : Counts R) where
     same_move_elements Minus size a b = same_move_by a _
 
     same_updated : (t : CType) (o : UpdateOp) (old v : Value) → Same n (acc.updated resting here t o old v) (acc.updated resting here t o old v)
-    same_updated t (Integer o k) old v = same_bind n {A = ℤ} (same_bind n {A = ℤ} (same_checked _) (λ z. same_pure n (converted_to t z))) (λ z. same_pure n (value.Int z))
+    same_updated t (Integer o k) old v = same_bind n {A = ℤ} (same_bind n {A = ℤ} (same_checked _) (λ z. same_pure n (converted_to k t z))) (λ z. same_pure n (value.Int z))
     same_updated t (Forward size) old v = same_move_by old _
     same_updated t (Backward size) old v = same_move_by old _
 

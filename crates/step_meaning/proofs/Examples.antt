@@ -34,7 +34,8 @@ use Rattle.step_meaning.specs.declared.program.Declared.{Declared}
 use Rattle.step_meaning.specs.Steps.{Step, Item, Made, Judged, Exit, Fault, More, items, steps, end}
 use Rattle.step_meaning.specs.Runs.{run}
 use Rattle.step_meaning.specs.First.{output}
-use Rattle.step_meaning.specs.Limits.{Exited, CellsFull, CallsFull, Spent, outcome}
+use Rattle.step_meaning.specs.Memory.{empty_block}
+use Rattle.step_meaning.specs.Limits.{chunks_of, Exited, CellsFull, CallsFull, Spent, outcome}
 
 -- ---- parts of programs
 
@@ -93,7 +94,7 @@ invoke f = e.Invoke' f [] end_of-Expr
 abbrev pub return : Expr → Stmt
 return a = s.Return (Some a)
 
--- `getchar` and `putchar` have the numbers 0 and 1
+-- one of `getchar`, `putchar`, `malloc` and `free`, which have the numbers 0 to 3
 abbrev pub library : Function
 library = record { name = []; result = int; params = 0; locals = []; registers = []; ghosts = []; body = None }
 
@@ -394,6 +395,13 @@ given_back = refl
 
 not_enough : outcome repeated [] 50 10 1000 ≡ record { made = 5; end = CellsFull }
 not_enough = refl
+
+-- 16 cells are one chunk, 17 are two
+sixteen_cells : chunks_of (empty_block [] (declared (array_of int 16))) ≡ 1
+sixteen_cells = refl
+
+seventeen_cells : chunks_of (empty_block [] (declared (array_of int 17))) ≡ 2
+seventeen_cells = refl
 
 -- ---- int a[1616]; int main(void) { return 0; }
 

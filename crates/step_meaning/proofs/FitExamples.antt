@@ -55,7 +55,7 @@ module _ (f : ℕ) where
   apart_fits =
       record {
         kinds = (lit≤ tt, (inr (refl, refl, refl), (inl (refl, tt), tt)));
-        limited = ((limited _ tt tt tt tt, (limited _ tt tt tt tt, limited _ tt tt tt tt, limited _ tt tt tt tt, limited _ tt tt tt tt)), ((tt, (limited _ tt tt tt tt, limited _ tt tt tt tt, limited _ tt tt tt tt, limited _ tt tt tt tt)), tt));
+        limited = ((limited _ tt tt tt tt, tt), ((tt, tt), tt));
       }
 
   write_fits : (g : Function) → IsFunctionOf two_writes f g → PointFits two_writes keep_x (write_in f)

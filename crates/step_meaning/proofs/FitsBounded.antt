@@ -116,12 +116,9 @@ module _ (g : Setting) (a : Allowed) (s : Sight) (typed : IsTypedSight g a s) wh
 
   -- ---- locations
 
-  zero_inside : (v : TermValue) → Some (Number (pos 0)) ≡ Some v → Inside (alone (pos 0)) v
-  zero_inside v e = subst (Inside (alone (pos 0))) (some_is (Number (pos 0)) v e) (in_alone (pos 0))
-
   span_bounded : (base : Option TermValue) (i : Interval) (size : ℕ) (span : Option (Term × Term)) → RangeFits g a span → RangeLimited a i span size
       → ((v : TermValue) → base ≡ Some v → Inside i v) → SpanBounded s base span size
-  span_bounded base i size None f l h = ends a s i (alone (pos 0)) (alone (pos 0)) size base (Some (Number (pos 0))) (Some (Number (pos 0))) l h zero_inside zero_inside
+  span_bounded base i size None f l h = tt
   span_bounded base i size (Some e) f l h = (
     term_bounded e.0 Integer f.0 l.0,
     term_bounded e.1 Integer f.1 l.1,

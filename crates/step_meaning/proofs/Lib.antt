@@ -14,33 +14,39 @@ pub mod ExpressionTypeExamples
 pub mod IllFormedExamples
 pub mod InitialValueExamples
 pub mod NormalExamples
-mod Ranges
-mod OperatorRanges
+pub mod Ranges
+pub mod OperatorRanges
 pub mod Falling
+pub mod SameTypes
 pub mod TypedMemory
-mod StepsFit
-mod Kept
-mod TypedAccesses
-mod TypedAllocation
-mod TypedOperators
-mod TypedPlaces
-mod TypedExpressions
-mod TypedStatements
-mod TypedCalls
+pub mod StepsFit
+pub mod Kept
+pub mod TypedAccesses
+pub mod TypedAllocation
+pub mod TypedOperators
+pub mod TypedPlaces
+pub mod TypedExpressions
+pub mod TypedStatements
+pub mod TypedCalls
 pub mod FormedFunctions
 pub mod AnnotationExamples
 pub mod FoldExamples
+pub mod HeapExamples
+pub mod OrderExamples
+pub mod GhostExamples
+pub mod SettingExamples
+pub mod AgreementExamples
 pub mod FitExamples
 pub mod IntervalEnds
 pub mod ValuesInside
 pub mod FitsBounded
-mod TypedSizes
+pub mod TypedSizes
 pub mod TypedRuns
 pub mod TracedSights
 pub mod ScopeExamples
-mod Nesting
-mod NestingRuns
-mod NestingLists
+pub mod Nesting
+pub mod NestingRuns
+pub mod NestingLists
 pub mod TracedRuns
 pub mod FoldPrefixes
 pub mod TracedPrefixes

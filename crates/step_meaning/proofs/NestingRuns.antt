@@ -214,7 +214,7 @@ module _ (q : Core) (here : Here) (outer : List Here) (is : (f : Function) × Is
   nest_move_elements Minus size a b = nest_move_by a _
 
   nest_updated : (t : CType) (o : UpdateOp) (old v : Value) → Nests (acc.updated resting here t o old v)
-  nest_updated t (Integer o k) old v = nest_bind {A = ℤ} (nest_bind {A = ℤ} (nest_checked _) (λ z. nest_pure (converted_to t z))) (λ z. nest_pure (value.Int z))
+  nest_updated t (Integer o k) old v = nest_bind {A = ℤ} (nest_bind {A = ℤ} (nest_checked _) (λ z. nest_pure (converted_to k t z))) (λ z. nest_pure (value.Int z))
   nest_updated t (Forward size) old v = nest_move_by old _
   nest_updated t (Backward size) old v = nest_move_by old _
 

@@ -1,5 +1,5 @@
 -- `malloc` and `free` keep types: a new block's cells hold nothing, and its pointer is an address.
-use Rattle.std.proofs.Common.{◌≡◌, ℕ, zero, suc, ◌+◌, ◌*◌, ◌≤◌, Bool, true, false, List, [], ◌∷◌, ◌++◌, length, Option, Some, None, refl, ap, ◌∙◌, arith, length-append}
+use Rattle.std.proofs.Common.{◌≡◌, ℕ, zero, suc, ◌+◌, ◌*◌, ◌≤◌, ◌<◌, ◌^◌, Bool, true, false, List, [], ◌∷◌, ◌++◌, length, Option, Some, None, refl, ap, ◌∙◌, arith, length-append}
 use Rattle.std.specs.Prelude.{pos}
 use Rattle.std.proofs.lemmas.Bool.{leb-true}
 use Rattle.step_meaning.specs.declared.value.CType.{CType}
@@ -38,6 +38,9 @@ pub unset_length : (ts : List CType) → length (unset_cells ts) ≡ length ts
 unset_length [] = refl
 unset_length (t ∷ ts) = ap suc (unset_length ts)
 
+few : (n : ℕ) → n ≤ 65536 → n < 2 ^ 32
+few n l = omega arith
+
 -- a new block has so many cells, a cell or more and at most 65,536
 pub new_block_fits : (layouts : List Layout) (t : CType) (count : ℕ) → WhereSome BlockFits (block_for layouts t count)
 new_block_fits layouts t count = by (is_block_size (count * cells layouts t)) refl
@@ -45,7 +48,7 @@ new_block_fits layouts t count = by (is_block_size (count * cells layouts t)) re
     by : (c : Bool) → is_block_size (count * cells layouts t) ≡ c → WhereSome BlockFits (block_where c count (object_cells layouts t))
     by true e =
         let most : count * cells layouts t ≤ 65536 = leb-true (count * cells layouts t) 65536 (right_of_and _ _ e) in
-        (unset_slots (times count (object_cells layouts t)), rw (unset_length (times count (object_cells layouts t)), times_length count (object_cells layouts t)) (omega arith))
+        (unset_slots (times count (object_cells layouts t)), rw (unset_length (times count (object_cells layouts t)), times_length count (object_cells layouts t)) (few (count * cells layouts t) most))
     by false e = tt
 
 -- ---- `malloc` and `free`

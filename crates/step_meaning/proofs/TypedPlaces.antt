@@ -1,6 +1,7 @@
 -- The typing of choices, assignments, addresses and lvalues, on what their parts are known to keep.
 use Rattle.std.proofs.Common.{◌≡◌, ℕ, Bool, true, false, cond, ◌&&◌, ◌||◌, not, List, Option, Some, None, Ok, Err, refl, sym, ◌∙◌}
 use Rattle.std.specs.Prelude.{◌==◌, ℤ, pos, ◌*ℤ◌, neg_ℤ, is_some}
+use Rattle.step_meaning.specs.declared.value.IntKind.{IntKind}
 use Rattle.step_meaning.specs.declared.value.CType.{CType, end_of-CType, more_of-CType}
 use Rattle.step_meaning.specs.declared.value.CType.TheVariants as type
 use Rattle.step_meaning.specs.declared.value.Value.{Value}
@@ -17,18 +18,18 @@ use Rattle.step_meaning.specs.Names.{integer, truth}
 use Rattle.step_meaning.specs.State.{Here, Lvalue, InRegister, At}
 use Rattle.step_meaning.specs.Flow.{direct, Direct}
 use Rattle.step_meaning.specs.Accesses as acc
-use Rattle.step_meaning.specs.Accesses.{answer, converted_to}
+use Rattle.step_meaning.specs.Accesses.{answer, brought}
 use Rattle.step_meaning.specs.Types.{where_true}
 use Rattle.step_meaning.specs.Conversions.{is_promoted, same_int_kind, promoted, common}
 use Rattle.step_meaning.specs.TypeRules.{cells, is_scalar, member_type, element_type}
 use Rattle.step_meaning.specs.ExpressionTypes.{is_void, has_this_type, has_kind, has_integer_type, has_pointer_type, is_null_constant, is_shift, are_of_one_kind, are_of_one_pointer, is_pointer_beside_null, are_void, choice_type, is_taken_by, is_operation, pointed_to, type_of_member, type_of_element, is_addressed_at, pointer_to}
 use Rattle.step_meaning.specs.Traced.{HasType}
 use Rattle.step_meaning.proofs.Ranges.{false_is_not_true, left_of_and, right_of_and, converted_in_range}
-use Rattle.step_meaning.proofs.OperatorRanges.{OnOk, InRange}
-use Rattle.step_meaning.proofs.TypedMemory.{WhereSome, InCell, Shape}
+use Rattle.step_meaning.proofs.OperatorRanges.{OnOk, InRange, binary_fits}
+use Rattle.step_meaning.proofs.TypedMemory.{WhereSome, InCell, Shape, has_same_type}
 use Rattle.step_meaning.proofs.StepsFit.{IsAddress}
 use Rattle.step_meaning.proofs.TypedAccesses.{IsPlace, address_of_type, type_of_address, keeps_checked, keeps_move_by, keeps_load, keeps_store}
-use Rattle.step_meaning.proofs.TypedOperators.{OfType, of_cell, where_true_fits, if_fits, either_true, not_true, Typed, this_keeps, kind_keeps, some_keeps, this_is_some, integer_is_some}
+use Rattle.step_meaning.proofs.TypedOperators.{OfType, of_cell, where_true_fits, if_fits, either_true, integer_in_range, not_true, Typed, this_keeps, kind_keeps, some_keeps, this_is_some, integer_is_some}
 use Rattle.step_meaning.proofs.Kept.{Keeps, Always, keeps_pure, keeps_bind, keeps_weaker, keeps_cond}
 
 -- what an lvalue of a type designates: where it is a register, a scalar; else an object at an address
@@ -52,6 +53,13 @@ always_ok (Err f) = tt
 true_of_some : (b : Bool) (t : CType) → is_some (where_true b t) ≡ true → b ≡ true
 true_of_some true t e = refl
 true_of_some false t e = e
+
+brought_in_range : (l k : IntKind) (z : ℤ) → InRange l z → InRange k (brought l k z)
+brought_in_range l k z h = by (same_int_kind l k) refl
+  where
+    by : (b : Bool) → same_int_kind l k ≡ b → InRange k (cond b z (converted k z))
+    by true e = has_same_type (type.Int l) (type.Int k) (value.Int z) e h
+    by false e = converted_in_range k z
 
 module _ (q : Core) (frames : List Shape) (registers : List CType) (here : Here) where
   abbrev pub K : {A : Type 0} → (A → Type 0) → Direct A → Type 0
@@ -134,7 +142,9 @@ module _ (q : Core) (frames : List Shape) (registers : List CType) (here : Here)
 
   updated_keeps : (layouts : List Layout) (t : CType) (u : UpdateOp) (a : Option CType) (old v : Value) → is_operation layouts t u a ≡ true → InCell t old → K (InCell t) (acc.updated direct here t u old v)
   updated_keeps layouts (type.Int l) (Integer o k) a old v e h =
-      keeps_bind {P = InRange l} (keeps_bind (keeps_checked here (binary_of o k (converted k (integer old)) (integer v)) (always_ok (binary_of o k (converted k (integer old)) (integer v)))) (λ z g. keeps_pure (converted l z) (converted_in_range l z))) (λ z r. keeps_pure (value.Int z) (r, tt))
+      keeps_bind {P = InRange l}
+      (keeps_bind {P = InRange k} (keeps_checked here (binary_of o k (brought l k (integer old)) (integer v)) (binary_fits o k (brought l k (integer old)) (integer v) (brought_in_range l k (integer old) (integer_in_range l old h)))) (λ z g. keeps_pure (brought k l z) (brought_in_range k l z g)))
+      (λ z r. keeps_pure (value.Int z) (r, tt))
   updated_keeps layouts (type.Pointer' p t) (Forward size) a old v e h = keeps_weaker (type_of_address p t) (keeps_move_by here old (integer v *ℤ pos size) (address_of_type p t old h))
   updated_keeps layouts (type.Pointer' p t) (Backward size) a old v e h = keeps_weaker (type_of_address p t) (keeps_move_by here old (neg_ℤ (integer v *ℤ pos size)) (address_of_type p t old h))
   updated_keeps layouts (type.Pointer' p t) (Integer o k) a old v e h = false_is_not_true e

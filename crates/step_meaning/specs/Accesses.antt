@@ -1,6 +1,7 @@
 -- Accesses to variables, operators and the library's calls, as parts of a run (C11 6.3.2.1, 6.5.6, 6.5.16, 7.21.7.6, 7.21.7.8).
 -- A read or write of memory is a step, also where it isn't allowed; a Halt step follows it then. The use of a register is no access and makes no step.
-use Rattle.std.specs.Prelude.{ℕ, ◌%◌, Bool, ℤ, pos, negsuc, ◌*ℤ◌, neg_ℤ, List, [], ◌∷◌, Option, Some, None, Result, Ok, Err}
+use Rattle.std.specs.Prelude.{ℕ, ◌%◌, Bool, if◌then◌else◌, ℤ, pos, negsuc, ◌*ℤ◌, neg_ℤ, List, [], ◌∷◌, Option, Some, None, Result, Ok, Err}
+use Rattle.step_meaning.specs.declared.value.IntKind.{IntKind}
 use Rattle.step_meaning.specs.declared.value.CType.{CType}
 use Rattle.step_meaning.specs.declared.value.CType.TheVariants as type
 use Rattle.step_meaning.specs.declared.value.Value.{Value}
@@ -17,16 +18,26 @@ use Rattle.step_meaning.specs.declared.expr.Answer.TheVariants.{Before, After}
 use Rattle.step_meaning.specs.declared.expr.UpdateOp.{UpdateOp}
 use Rattle.step_meaning.specs.declared.expr.UpdateOp.TheVariants.{Integer, Forward, Backward}
 use Rattle.step_meaning.specs.Numbers.{converted, low_bits, binary_of}
+use Rattle.step_meaning.specs.Conversions.{same_int_kind}
 use Rattle.step_meaning.specs.Names.{of_truth, integer, moved}
 use Rattle.step_meaning.specs.Memory.{room_at, reached, stored}
 use Rattle.step_meaning.specs.Steps.{Fault}
 use Rattle.step_meaning.specs.State.{Here, register_at, set_register, Lvalue, InRegister, At}
 use Rattle.step_meaning.specs.Flow.{Flow}
 
--- an integer brought to the type of the place that takes it
-abbrev pub converted_to : CType → ℤ → ℤ
-converted_to (type.Int k) z = converted k z
-converted_to _ z = z
+-- an integer of the one kind brought to the other. Its own kind leaves it as it is
+abbrev pub brought : IntKind → IntKind → ℤ → ℤ
+brought l k z = if same_int_kind l k then z else converted k z
+
+-- an integer of this type brought to the kind
+abbrev pub brought_to : IntKind → CType → ℤ → ℤ
+brought_to k (type.Int l) z = brought l k z
+brought_to k _ z = converted k z
+
+-- an integer of the kind brought to the type of the place that takes it
+abbrev pub converted_to : IntKind → CType → ℤ → ℤ
+converted_to k (type.Int l) z = brought k l z
+converted_to k _ z = z
 
 -- the value of a compound assignment, `++` or `--`
 abbrev pub answer : Answer → Value → Value → Value
@@ -117,9 +128,9 @@ module _ (F : Flow) where
   move_elements here PointerLast size a b = move_by here b (integer a *ℤ pos size)
   move_elements here Minus size a b = move_by here a (neg_ℤ (integer b *ℤ pos size))
 
-  -- the new value of a compound assignment, `++` or `--` at a place of this type: the old value is brought to the kind of the operation, and the result to the type of the place
+  -- the new value of a compound assignment, `++` or `--` at a place of this type: the old value is brought to the kind of the operation, and the result to the type of the place, each where these differ
   abbrev pub updated : Here → CType → UpdateOp → Value → Value → F.Does Value
-  updated here t (Integer o k) old v = as_int (checked here (binary_of o k (converted k (integer old)) (integer v)) >>= (λ z. F.pure (converted_to t z)))
+  updated here t (Integer o k) old v = as_int (checked here (binary_of o k (brought_to k t (integer old)) (integer v)) >>= (λ z. F.pure (converted_to k t z)))
   updated here t (Forward size) old v = move_by here old (integer v *ℤ pos size)
   updated here t (Backward size) old v = move_by here old (neg_ℤ (integer v *ℤ pos size))
 

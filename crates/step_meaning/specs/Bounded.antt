@@ -64,7 +64,7 @@ module _ (s : Sight) where
   EndsWithin _ _ _ size = Unit {0}
 
   abbrev pub SpanBounded : Option TermValue → Option (Term × Term) → ℕ → Type 0
-  SpanBounded base None size = EndsWithin base (Some (Number (pos 0))) (Some (Number (pos 0))) size
+  SpanBounded base None size = Unit {0}
   SpanBounded base (Some e) size = TermBounded e.0 (now s) × TermBounded e.1 (now s) × EndsWithin base (value_of s e.0) (value_of s e.1) size
 
   abbrev pub LocationBounded : Location → Type 0

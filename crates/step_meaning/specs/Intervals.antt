@@ -142,9 +142,9 @@ module _ (a : Allowed) where
       let past = times_size (sum to (alone (pos 1))) size in
       IsLimited first × IsLimited past × IsLimited (sum i first) × IsLimited (sum i past)
 
-  -- without a range these are the cells of the one object pointed to
+  -- the limit of a location's ends is that of a range alone
   abbrev pub RangeLimited : Interval → Option (Term × Term) → ℕ → Type 0
-  RangeLimited i None size = SpanLimited i (alone (pos 0)) (alone (pos 0)) size
+  RangeLimited i None size = Unit {0}
   RangeLimited i (Some e) size = TermLimited e.0 × TermLimited e.1 × SpanLimited i (interval e.0) (interval e.1) size
 
   abbrev pub LocationLimited : List Layout → Location → Type 0

@@ -33,6 +33,8 @@ pub mod Library
 pub mod WellFormed
 pub mod Sizes
 pub mod Normal
+pub mod Promises
+pub mod Sources
 pub mod Printable
 pub mod FaultsHalt
 pub mod TermSizes

@@ -13,7 +13,6 @@ pub struct Declared {
 }
 
 /// A function (C11 6.9.1).
-#[derive(Drop)]
 pub struct Function {
     /// Its name.
     pub name: Text,
@@ -31,8 +30,13 @@ pub struct Function {
     pub body: Option<Items<Stmt>>,
 }
 
+impl Drop for Function {
+    fn drop(self) {
+        let Function { name: _name, result: _result, params: _params, locals: _locals, registers: _registers, ghosts: _ghosts, body: _body } = self;
+    }
+}
+
 /// A struct's members (C11 6.7.2.1).
-#[derive(Drop)]
 pub struct Layout {
     /// Its tag.
     pub tag: Text,
@@ -40,8 +44,13 @@ pub struct Layout {
     pub members: Items<Declared>,
 }
 
+impl Drop for Layout {
+    fn drop(self) {
+        let Layout { tag: _tag, members: _members } = self;
+    }
+}
+
 /// A whole program, typed and with all names resolved to numbers.
-#[derive(Drop)]
 pub struct Core {
     /// The structs, in order of definition.
     pub layouts: Items<Layout>,
@@ -57,8 +66,13 @@ pub struct Core {
     pub start: u32,
 }
 
+impl Drop for Core {
+    fn drop(self) {
+        let Core { layouts: _layouts, globals: _globals, initial: _initial, ghosts: _ghosts, functions: _functions, start: _start } = self;
+    }
+}
+
 /// The code that follows one monitor along a run.
-#[derive(Drop)]
 pub struct Hooks {
     /// The monitor's number, from 1.
     pub monitor: u32,
@@ -70,8 +84,13 @@ pub struct Hooks {
     pub points: Items<HookPoint>,
 }
 
+impl Drop for Hooks {
+    fn drop(self) {
+        let Hooks { monitor: _monitor, first: _first, globals: _globals, points: _points } = self;
+    }
+}
+
 /// Code at one kind of step of one function.
-#[derive(Drop)]
 pub struct HookPoint {
     /// The function's number.
     pub function: u32,
@@ -81,6 +100,12 @@ pub struct HookPoint {
     pub saves: Items<Declared>,
     /// Ghost code and assertions.
     pub code: Items<Stmt>,
+}
+
+impl Drop for HookPoint {
+    fn drop(self) {
+        let HookPoint { function: _function, place: _place, saves: _saves, code: _code } = self;
+    }
 }
 
 /// The kinds of step before which code may stand.
