@@ -85,7 +85,7 @@ module _ (here : Here) where
   silent_elements Minus size a b = silent_move a _
 
   silent_updated : (t : CType) (o : UpdateOp) (old v : Value) → Silent (acc.updated strict here t o old v) (acc.updated resting here t o old v)
-  silent_updated t (Integer o k) old v = silent_bind {A = ℤ} (silent_bind {A = ℤ} (silent_checked (binary_of o k (converted k (integer old)) (integer v))) (λ z. silent_pure (acc.converted_to t z))) (λ z. silent_pure (value.Int z))
+  silent_updated t (Integer o k) old v = silent_bind {A = ℤ} (silent_bind {A = ℤ} (silent_checked (binary_of o k (acc.brought_to k t (integer old)) (integer v))) (λ z. silent_pure (acc.converted_to k t z))) (λ z. silent_pure (value.Int z))
   silent_updated t (Forward size) old v = silent_move old _
   silent_updated t (Backward size) old v = silent_move old _
 

@@ -30,7 +30,6 @@ pub record IsVariable (g : Setting) (u : CType) (e : Term) : Type 0 where
 pub record IsPointer (g : Setting) (u : CType) (e : Term) : Type 0 where
   pub kind : term_kind g nothing_else e ≡ Some (PointerTo u)
   pub limited : TermLimited nothing_else e
-  pub object : RangeLimited nothing_else (interval nothing_else e) None (denoted_size g.layouts u)
 
 pub record SubstitutionFits (q : Core) (pt : HookPoint) (g : Setting) (st : Substitution) : Type 0 where
   pub accessed : IsTrue (is_access_place pt.place) → IsPointer g st.object st.accessed

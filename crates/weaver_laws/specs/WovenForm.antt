@@ -6,7 +6,7 @@ use Rattle.step_meaning.specs.WellFormed.{IsWellFormed}
 use Rattle.step_meaning.specs.Normal.{IsNormal}
 use Rattle.step_meaning.specs.Fit.{FitTogether}
 use Rattle.weaver_laws.specs.Bare.{IsBare}
-use Rattle.weaver_laws.specs.Promises.{ReturnsRegistersAlone}
+use Rattle.step_meaning.specs.Promises.{ReturnsRegistersAlone}
 use Rattle.weaver_laws.specs.Weaving.{woven_core}
 use Rattle.weaver_laws.specs.Joining.{joined}
 
