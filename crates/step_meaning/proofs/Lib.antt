@@ -54,3 +54,4 @@ pub mod JudgedExamples
 pub mod AcceptedExamples
 pub mod RelatedFlows
 pub mod StrictRuns
+pub mod StrictExamples
