@@ -18,7 +18,7 @@ use Rattle.step_meaning.specs.declared.expr.Expr.{Expr, end_of-Expr, more_of-Exp
 use Rattle.step_meaning.specs.declared.expr.Expr.TheVariants.{Literal, Null, Load, Address, Convert', Unary', Binary', Compare', Move', Difference', Not', Both', Either', Choose', Assign', Update', Invoke', GetChar, PutChar', Malloc', Free', Discard', Own, Deref', Member', Index'}
 use Rattle.step_meaning.specs.declared.expr.Place_.{Place_, end_of-Place_, more_of-Place_}
 use Rattle.step_meaning.specs.declared.program.Layout.{Layout}
-use Rattle.step_meaning.specs.Numbers.{converted, binary_of}
+use Rattle.step_meaning.specs.Numbers.{binary_of}
 use Rattle.step_meaning.specs.Names.{truth, of_truth, integer, moved, is_register_variable, name_in}
 use Rattle.step_meaning.specs.Memory.{Memory, room_at}
 use Rattle.step_meaning.specs.Steps.{Fault, Trace, Stop, Then}

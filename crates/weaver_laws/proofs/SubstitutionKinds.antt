@@ -11,10 +11,9 @@ use Rattle.step_meaning.specs.declared.expr.Variable.{Variable}
 use Rattle.step_meaning.specs.Settings.{Setting, variable_type}
 use Rattle.step_meaning.specs.Allowances.{Allowed, nothing_else}
 use Rattle.step_meaning.specs.Fit.{hook_allowed, is_access_place}
-use Rattle.step_meaning.specs.Intervals.{interval, IsLimited, TermLimited, RangeLimited, interval_if_any}
+use Rattle.step_meaning.specs.Intervals.{interval, IsLimited, TermLimited, interval_if_any}
 use Rattle.step_meaning.specs.TermKinds.{term_kind, kind_of_read, PointerTo, kind_of_type}
 use Rattle.step_meaning.specs.TermParts.{Conditions, EachInTerm, no_condition}
-use Rattle.step_meaning.specs.Predicates.{denoted_size}
 use Rattle.weaver_laws.specs.Weaving.{Substitution, is_accessed}
 use Rattle.weaver_laws.proofs.PlainKinds.{HasKind, same_itself}
 
