@@ -170,7 +170,7 @@ module _ (p : Core) (h : Hooks) (j : ℕ) (IsTheirs : ℕ → Type 0) (ss : List
         let g' = ghosts_after_code (view s x) code g in
         record {
           truths = λ i. subst (λ g'. (all_safe j (fold_verdicts a s g) && good) ≡ (invariant_truth s g' && (all_safe j (fold_verdicts a s g) && good))) (sym (ghosts_are a s g b.own))
-            (after_so (all_safe j (fold_verdicts a s g)) (invariant_truth s g') good (λ t. implied g g' b.inside k.inside (sym (k.saves inner)) (ap (λ vs. all_safe j vs) (sym (verdicts_are a s g b.own)) ∙ t)));
+              (after_so (all_safe j (fold_verdicts a s g)) (invariant_truth s g') good (λ t. implied g g' b.inside k.inside (sym (k.saves inner)) (ap (λ vs. all_safe j vs) (sym (verdicts_are a s g b.own)) ∙ t)));
           accepted = refl;
         }
 
@@ -191,10 +191,11 @@ module _ (p : Core) (h : Hooks) (j : ℕ) (IsTheirs : ℕ → Type 0) (ss : List
         let g' = ghosts_after_code (view s x) code g in
         let ws = verdicts_of_code (view s x) code g in
         code_simulated p h j IsTheirs ss here s r x (place_of a) here.function st substitutes m_in outer call bound code code_fits g good vs g b.inside (Then (Made (step a s)) t) tail rest
-          (subst (λ u'. SimulatedHere g good (vs ++ ws) (Then (Made (step a s)) t) u') (sym (runs (image here.activation outer g')))
-            (refl,
-             subst (λ ws'. VerdictsMatch j good (vs ++ ws) ws') (sym (verdicts_are a s g b.own)) (matches first g good vs b o),
-             subst (λ g'. SimulatedHere (fold_ghosts a s g) (all_safe j (fold_verdicts a s g) && good) [] t (u (image here.activation outer g'))) (ghosts_are a s g b.own) l))
+        (subst (λ u'. SimulatedHere g good (vs ++ ws) (Then (Made (step a s)) t) u') (sym (runs (image here.activation outer g'))) (
+          refl,
+          subst (λ ws'. VerdictsMatch j good (vs ++ ws) ws') (sym (verdicts_are a s g b.own)) (matches first g good vs b o),
+          subst (λ g'. SimulatedHere (fold_ghosts a s g) (all_safe j (fold_verdicts a s g) && good) [] t (u (image here.activation outer g'))) (ghosts_are a s g b.own) l,
+        ))
 
 -- ---- calls
 

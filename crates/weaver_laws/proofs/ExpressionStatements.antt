@@ -94,45 +94,46 @@ module _ (p : Core) (h : Hooks) (j : ℕ) (IsTheirs : ℕ → Type 0) (ss : List
       let t = eval strict p.layouts source_call here (ex.Invoke' f b es) k s r in
       let T' = code_before hook_points here.function place.Call (call_substitution f) ++ T in
       held_case p h j IsTheirs ss ready here outer source_call woven_call bound first (operand_values es r) (λ xs s r. Then (Made (step_here a s)) (source_call f xs (λ v s. k v s r) s)) s r t
-        (operands_strict here p.layouts source_call es oe (λ xs s r. Then (Made (step_here a s)) (source_call f xs (λ v s. k v s r) s)) s r) proper (SimulatedHere g good vs t (run_woven T' rest' (woven_state s g) r)) (λ xs ex' et.
-          let t' = source_call f xs (λ v s. k v s r) s in
-          let proper' : IsProper p false (Then (Made (step_here a s)) t') = subst (λ t. IsProper p false t) et proper in
-          let substitutes = call_substitutes p h j IsTheirs ss ready here outer source_call woven_call bound first a f refl refl s r in
-          let m_in = step_inside p (step_here a s) proper'.0 in
-          let g' = ghosts_here a s g in
-          let good' = all_safe j (verdicts_here a s g) && good in
-          let body' = stepped p h j IsTheirs ss ready here outer a refl s r (call_substitution f) m_in substitutes first g body in
-          let f0 = own_frame here.activation (frame_of here.activation g'.frames) in
-          subst (λ t. SimulatedHere g good vs t (run_woven T' rest' (woven_state s g) r)) (sym et)
-            (announce p h j IsTheirs ss ready here outer a refl s r (call_substitution f) m_in substitutes woven_call bound first g good vs body opened t' T rest'
-              (λ G. woven_call f xs (λ v s. k' v s r) (record s { ghosts = G }))
-              (λ G. runs (record s { ghosts = G }) r ∙ operands_run here p.layouts woven_call es oe xs r ex' (λ xs s r. Then (Made (step_here a s)) (woven_call f xs (λ v s. k' v s r) s)) (record s { ghosts = G }))
-              (alike.by f xs s g' (f0 ∷ outer) good' body'.inside body'.bounded (λ v s. k v s r) (λ v s. k' v s r)
-                (λ v s2 g2 good2 i2 b2 le same f2.
-                  let same_own = same here.activation body'.later in
-                  let inner : InBodyHere s2 g2 = record {
-                      inside = i2;
-                      own = ap is_some same_own ∙ body'.own;
-                      below = λ n l. same n (let l' : n < here.activation = l in let m : here.activation < s.made = body'.later in omega arith) ∙ body'.below n l;
-                      bounded = b2;
-                      later = let m : here.activation < s.made = body'.later in let l' : s.made ≤ s2.made = le in omega arith;
-                    } in
-                  subst (λ (o : Option Frame). SimulatedHere g2 good2 [] (k v s2 r) (k' v (record s2 { ghosts = record g2 { frames = own_frame here.activation o ∷ outer } }) r)) same_own
-                    (takes.by v s2 g2 good2 [] r inner (exact_open p h j IsTheirs ss ready here outer s2 g2 good2) f2))
-                proper'.1)))
+      (operands_strict here p.layouts source_call es oe (λ xs s r. Then (Made (step_here a s)) (source_call f xs (λ v s. k v s r) s)) s r) proper (SimulatedHere g good vs t (run_woven T' rest' (woven_state s g) r)) (λ xs ex' et.
+      let t' = source_call f xs (λ v s. k v s r) s in
+      let proper' : IsProper p false (Then (Made (step_here a s)) t') = subst (λ t. IsProper p false t) et proper in
+      let substitutes = call_substitutes p h j IsTheirs ss ready here outer source_call woven_call bound first a f refl refl s r in
+      let m_in = step_inside p (step_here a s) proper'.0 in
+      let g' = ghosts_here a s g in
+      let good' = all_safe j (verdicts_here a s g) && good in
+      let body' = stepped p h j IsTheirs ss ready here outer a refl s r (call_substitution f) m_in substitutes first g body in
+      let f0 = own_frame here.activation (frame_of here.activation g'.frames) in
+      subst (λ t. SimulatedHere g good vs t (run_woven T' rest' (woven_state s g) r)) (sym et)
+      (announce p h j IsTheirs ss ready here outer a refl s r (call_substitution f) m_in substitutes woven_call bound first g good vs body opened t' T rest'
+      (λ G. woven_call f xs (λ v s. k' v s r) (record s { ghosts = G }))
+      (λ G. runs (record s { ghosts = G }) r ∙ operands_run here p.layouts woven_call es oe xs r ex' (λ xs s r. Then (Made (step_here a s)) (woven_call f xs (λ v s. k' v s r) s)) (record s { ghosts = G }))
+      (alike.by f xs s g' (f0 ∷ outer) good' body'.inside body'.bounded (λ v s. k v s r) (λ v s. k' v s r)
+      (λ v s2 g2 good2 i2 b2 le same f2.
+      let same_own = same here.activation body'.later in
+      let inner : InBodyHere s2 g2 = record {
+        inside = i2;
+        own = ap is_some same_own ∙ body'.own;
+        below = λ n l. same n (let l' : n < here.activation = l in let m : here.activation < s.made = body'.later in omega arith) ∙ body'.below n l;
+        bounded = b2;
+        later = let m : here.activation < s.made = body'.later in let l' : s.made ≤ s2.made = le in omega arith;
+      } in
+      subst (λ (o : Option Frame). SimulatedHere g2 good2 [] (k v s2 r) (k' v (record s2 { ghosts = record g2 { frames = own_frame here.activation o ∷ outer } }) r)) same_own
+      (takes.by v s2 g2 good2 [] r inner (exact_open p h j IsTheirs ss ready here outer s2 g2 good2) f2))
+      proper'.1)))
 
   -- ---- an expression that makes no step, and a register
 
   silent_simulated : (q : Place_) (u : CType) (b : _) (e : Expr) → is_register q ≡ true → is_silent e ≡ true → (D : Resting Completion) (tail : List Stmt) (rest rest' : Completion → State → Registers → Trace) → PartSimulatedHere rest rest' D (run_woven tail)
       → PartSimulatedHere rest rest' (λ rest. run_statement (Eval (ex.Assign' q u b (more_of-Expr e end_of-Expr))) (λ c. sm.on_next strict D c rest)) (run_woven (changed_code hook_points here.function ++ (Eval (ex.Assign' q u b (more_of-Expr e end_of-Expr)) ∷ tail)))
-  silent_simulated q u b e oq oe D tail rest rest' simulated = record { by = λ s g good vs r body opened proper.
-      let E = ex.Assign' q u b (more_of-Expr e end_of-Expr) in
-      assert_changed p h j IsTheirs ss ready here outer source_call woven_call bound first s r g good vs body opened (eval strict p.layouts source_call here E (λ x. D rest) s r) (Eval E ∷ tail) rest' (λ ws a.
+  silent_simulated q u b e oq oe D tail rest rest' simulated = record {
+    by = λ s g good vs r body opened proper.
+        let E = ex.Assign' q u b (more_of-Expr e end_of-Expr) in
+        assert_changed p h j IsTheirs ss ready here outer source_call woven_call bound first s r g good vs body opened (eval strict p.layouts source_call here E (λ x. D rest) s r) (Eval E ∷ tail) rest' (λ ws a.
         (silent_eval here p.layouts source_call woven_call E (both (is_register q) (is_silent e) oq oe)).by s (image here.activation outer g) r (λ t u. IsProper p false t → SimulatedHere g good ws t u) (λ x. D rest) (λ x. run_woven tail rest')
-          (λ x r' f. simulated.by s g good ws r' body (asserted_open p h j IsTheirs ss ready here outer s g good ws a) f)
-          (λ f proper. halted p h j IsTheirs ss ready here outer source_call woven_call bound first s g good ws body a f proper)
-          (λ u f. no_true f)
-          proper)
+        (λ x r' f. simulated.by s g good ws r' body (asserted_open p h j IsTheirs ss ready here outer s g good ws a) f)
+        (λ f proper. halted p h j IsTheirs ss ready here outer source_call woven_call bound first s g good ws body a f proper)
+        (λ u f. no_true f)
+        proper);
   }
     where
       both : (a b : Bool) → a ≡ true → b ≡ true → (a && b) ≡ true
@@ -182,23 +183,27 @@ module _ (p : Core) (h : Hooks) (j : ℕ) (IsTheirs : ℕ → Type 0) (ss : List
       let fits = code_for_fits p h j IsTheirs ss place.Return here.function hook_points ready in
       let m = matches p h j IsTheirs ss ready here outer a refl s r (return_substitution e) m_in substitutes first g good vs body opened in
       code_simulated p h j IsTheirs ss here s r x place.Return here.function (return_substitution e) substitutes m_in outer woven_call bound code fits g good vs g body.inside (rest (Returned v) s r) T rest'
-        (subst (λ u. SimulatedHere g good (vs ++ ws) (rest (Returned v) s r) u) (sym (runs (image here.activation outer g')))
-          (subst (λ g'. SimulatedHere g good (vs ++ ws) (rest (Returned v) s r) (rest' (Returned v) (record s { ghosts = image here.activation outer g' }) r)) (ghosts_are p h j IsTheirs ss ready here outer a s g body.own)
-            (exits.returned v s g good (vs ++ ws) r body (stepped p h j IsTheirs ss ready here outer a refl s r (return_substitution e) m_in substitutes first g body)
-              (subst (λ ws'. VerdictsMatch j good (vs ++ ws) ws') (sym (verdicts_are p h j IsTheirs ss ready here outer a s g body.own)) m) proper)))
+      (subst (λ u. SimulatedHere g good (vs ++ ws) (rest (Returned v) s r) u) (sym (runs (image here.activation outer g')))
+      (subst (λ g'. SimulatedHere g good (vs ++ ws) (rest (Returned v) s r) (rest' (Returned v) (record s { ghosts = image here.activation outer g' }) r)) (ghosts_are p h j IsTheirs ss ready here outer a s g body.own)
+      (exits.returned v s g good (vs ++ ws) r body (stepped p h j IsTheirs ss ready here outer a refl s r (return_substitution e) m_in substitutes first g body)
+      (subst (λ ws'. VerdictsMatch j good (vs ++ ws) ws') (sym (verdicts_are p h j IsTheirs ss ready here outer a s g body.own)) m) proper)))
 
   pub return_simulated : (e : Option Expr) → is_operand_or_nothing e ≡ true → (D : Resting Completion) (tail : List Stmt) (rest rest' : Completion → State → Registers → Trace) → ExitsSimulatedHere rest rest'
       → PartSimulatedHere rest rest' (λ rest. run_statement (st.Return e) (λ c. sm.on_next strict D c rest)) (run_woven (code_before hook_points here.function place.Return (return_substitution e) ++ (st.Return e ∷ tail)))
-  return_simulated None o D tail rest rest' exits = record { by = λ s g good vs r body opened proper.
-      announce_return None None (st.Return None ∷ tail) rest rest' exits s g good vs r body opened proper (λ base g. refl) (λ H. refl) }
-  return_simulated (Some e) o D tail rest rest' exits = record { by = λ s g good vs r body opened proper.
-      let t = eval strict p.layouts source_call here e (λ v. rest (Returned (Some v))) s r in
-      let T' = code_before hook_points here.function place.Return (return_substitution (Some e)) ++ (st.Return (Some e) ∷ tail) in
-      held_case p h j IsTheirs ss ready here outer source_call woven_call bound first (operand_value e r) (λ v. rest (Returned (Some v))) s r t (operand_strict here p.layouts source_call e o (λ v. rest (Returned (Some v))) s r) proper (SimulatedHere g good vs t (run_woven T' rest' (woven_state s g) r)) (λ v ev et.
+  return_simulated None o D tail rest rest' exits = record {
+    by = λ s g good vs r body opened proper.
+        announce_return None None (st.Return None ∷ tail) rest rest' exits s g good vs r body opened proper (λ base g. refl) (λ H. refl);
+  }
+  return_simulated (Some e) o D tail rest rest' exits = record {
+    by = λ s g good vs r body opened proper.
+        let t = eval strict p.layouts source_call here e (λ v. rest (Returned (Some v))) s r in
+        let T' = code_before hook_points here.function place.Return (return_substitution (Some e)) ++ (st.Return (Some e) ∷ tail) in
+        held_case p h j IsTheirs ss ready here outer source_call woven_call bound first (operand_value e r) (λ v. rest (Returned (Some v))) s r t (operand_strict here p.layouts source_call e o (λ v. rest (Returned (Some v))) s r) proper (SimulatedHere g good vs t (run_woven T' rest' (woven_state s g) r)) (λ v ev et.
         subst (λ t. SimulatedHere g good vs t (run_woven T' rest' (woven_state s g) r)) (sym et)
-          (announce_return (Some e) (Some v) (st.Return (Some e) ∷ tail) rest rest' exits s g good vs r body opened (subst (λ t. IsProper p false t) et proper)
-            (λ base g. operand_term here p s.memory r base g (step_parts ss (step_here (act.Return here.function (Some v)) s)) e o v ev)
-            (λ H. operand_run here p.layouts woven_call e o v r ev (λ v. rest' (Returned (Some v))) (record s { ghosts = H })))) }
+        (announce_return (Some e) (Some v) (st.Return (Some e) ∷ tail) rest rest' exits s g good vs r body opened (subst (λ t. IsProper p false t) et proper)
+        (λ base g. operand_term here p s.memory r base g (step_parts ss (step_here (act.Return here.function (Some v)) s)) e o v ev)
+        (λ H. operand_run here p.layouts woven_call e o v r ev (λ v. rest' (Returned (Some v))) (record s { ghosts = H }))));
+  }
 
   -- ---- expression statements
 
@@ -243,31 +248,35 @@ module _ (p : Core) (h : Hooks) (j : ℕ) (IsTheirs : ℕ → Type 0) (ss : List
   register_simulated : (v : Variable) → is_register_variable v ≡ true → (u : CType) (b : _) (d : Expr) (pl : HookPlace) (substitution : Substitution) → ValueGiven p h j IsTheirs ss ready here outer source_call woven_call bound first d pl substitution
       → (D : Resting Completion) (tail : List Stmt) (rest rest' : Completion → State → Registers → Trace) → PartSimulatedHere rest rest' D (run_woven tail)
       → PartSimulatedHere rest rest' (λ rest. run_statement (st.Eval (ex.Assign' (ex.Own v) u b (more_of-Expr d end_of-Expr))) (λ c. sm.on_next strict D c rest)) (run_woven (code_before hook_points here.function pl substitution ++ (st.Eval (ex.Assign' (ex.Own v) u b (more_of-Expr d end_of-Expr)) ∷ tail)))
-  register_simulated v ev u b d pl substitution gives D tail rest rest' simulated = record { by = λ s g good vs r body opened proper.
-      let T = st.Eval (ex.Assign' (ex.Own v) u b (more_of-Expr d end_of-Expr)) ∷ tail in
-      let k = λ (l : Lvalue) (x : Value). store strict here u l x (λ x. D rest) in
-      let k' = λ (l : Lvalue) (x : Value). store resting here u l x (λ x. run_woven tail rest') in
-      let des : designated here.activation v 0 ≡ InRegister v.index = ap (λ b. cond b (InRegister v.index) (At (value.Pointer (name_in here.activation v) 0))) ev in
-      subst (λ l. IsProper p false (eval strict p.layouts source_call here d (k l) s r) → SimulatedHere g good vs (eval strict p.layouts source_call here d (k l) s r) (run_woven (code_before hook_points here.function pl substitution ++ T) rest' (woven_state s g) r)) (sym des)
+  register_simulated v ev u b d pl substitution gives D tail rest rest' simulated = record {
+    by = λ s g good vs r body opened proper.
+        let T = st.Eval (ex.Assign' (ex.Own v) u b (more_of-Expr d end_of-Expr)) ∷ tail in
+        let k = λ (l : Lvalue) (x : Value). store strict here u l x (λ x. D rest) in
+        let k' = λ (l : Lvalue) (x : Value). store resting here u l x (λ x. run_woven tail rest') in
+        let des : designated here.activation v 0 ≡ InRegister v.index = ap (λ b. cond b (InRegister v.index) (At (value.Pointer (name_in here.activation v) 0))) ev in
+        subst (λ l. IsProper p false (eval strict p.layouts source_call here d (k l) s r) → SimulatedHere g good vs (eval strict p.layouts source_call here d (k l) s r) (run_woven (code_before hook_points here.function pl substitution ++ T) rest' (woven_state s g) r)) (sym des)
         (λ proper. gives (k (InRegister v.index)) (k' (InRegister v.index)) (register_takes p h j IsTheirs ss ready here outer source_call woven_call bound first u v.index D tail rest rest' simulated) T rest' (λ s r. ap (λ l. eval resting p.layouts woven_call here d (k' l) s r) des) s g good vs r body opened proper)
-        proper }
+        proper;
+  }
 
   bare_simulated : (d : Expr) → ValueForm d → (D : Resting Completion) (tail : List Stmt) (rest rest' : Completion → State → Registers → Trace) → PartSimulatedHere rest rest' D (run_woven tail)
       → PartSimulatedHere rest rest' (λ rest. run_statement (st.Eval d) (λ c. sm.on_next strict D c rest)) (run_woven (code_before_value hook_points here.function d ++ (st.Eval d ∷ tail)))
-  bare_simulated d form D tail rest rest' simulated = record { by = λ s g good vs r body opened proper.
-      subst (λ c. SimulatedHere g good vs (eval strict p.layouts source_call here d (λ x. D rest) s r) (run_woven (c ++ (st.Eval d ∷ tail)) rest' (woven_state s g) r)) (sym form.2)
-        (form.3 (λ x. D rest) (λ x. run_woven tail rest') (nothing_takes p h j IsTheirs ss ready here outer source_call woven_call bound first D tail rest rest' simulated) (st.Eval d ∷ tail) rest' (λ s r. refl) s g good vs r body opened proper) }
+  bare_simulated d form D tail rest rest' simulated = record {
+    by = λ s g good vs r body opened proper.
+        subst (λ c. SimulatedHere g good vs (eval strict p.layouts source_call here d (λ x. D rest) s r) (run_woven (c ++ (st.Eval d ∷ tail)) rest' (woven_state s g) r)) (sym form.2)
+        (form.3 (λ x. D rest) (λ x. run_woven tail rest') (nothing_takes p h j IsTheirs ss ready here outer source_call woven_call bound first D tail rest rest' simulated) (st.Eval d ∷ tail) rest' (λ s r. refl) s g good vs r body opened proper);
+  }
 
   assign_register : (v : Variable) → is_register_variable v ≡ true → (u : CType) (b : _) (d : Expr) → (s : Bool) → is_silent d ≡ s → (is_silent d || (is_place_value d || is_single_call d)) ≡ true → has_scalar_access d ≡ true
       → (D : Resting Completion) (tail : List Stmt) (rest rest' : Completion → State → Registers → Trace) → PartSimulatedHere rest rest' D (run_woven tail)
       → PartSimulatedHere rest rest' (λ rest. run_statement (st.Eval (ex.Assign' (ex.Own v) u b (more_of-Expr d end_of-Expr))) (λ c. sm.on_next strict D c rest)) (run_woven (code_before_value hook_points here.function d ++ (st.Eval (ex.Assign' (ex.Own v) u b (more_of-Expr d end_of-Expr)) ∷ tail)))
   assign_register v ev u b d true e o sc D tail rest rest' simulated =
       subst (λ c. PartSimulatedHere rest rest' (λ rest. run_statement (st.Eval (ex.Assign' (ex.Own v) u b (more_of-Expr d end_of-Expr))) (λ c. sm.on_next strict D c rest)) (run_woven (c ++ (st.Eval (ex.Assign' (ex.Own v) u b (more_of-Expr d end_of-Expr)) ∷ tail)))) (sym (silent_before d e))
-        (silent_simulated (ex.Own v) u b d ev e D tail rest rest' simulated)
+      (silent_simulated (ex.Own v) u b d ev e D tail rest rest' simulated)
   assign_register v ev u b d false e o sc D tail rest rest' simulated =
       let form = value_form d (subst (λ s. (s || (is_place_value d || is_single_call d)) ≡ true) e o) sc in
       subst (λ c. PartSimulatedHere rest rest' (λ rest. run_statement (st.Eval (ex.Assign' (ex.Own v) u b (more_of-Expr d end_of-Expr))) (λ c. sm.on_next strict D c rest)) (run_woven (c ++ (st.Eval (ex.Assign' (ex.Own v) u b (more_of-Expr d end_of-Expr)) ∷ tail)))) (sym form.2)
-        (register_simulated v ev u b d form.0 form.1 form.3 D tail rest rest' simulated)
+      (register_simulated v ev u b d form.0 form.1 form.3 D tail rest rest' simulated)
 
   assign_simulated : (q : Place_) (u : CType) (b : _) (d : Expr) (c : Bool) → is_register q ≡ c → ((is_register q && (is_silent d || (is_place_value d || is_single_call d))) || (is_plain_place q && is_operand d)) ≡ true → is_scalar u ≡ true → has_scalar_access d ≡ true
       → (D : Resting Completion) (tail : List Stmt) (rest rest' : Completion → State → Registers → Trace) → PartSimulatedHere rest rest' D (run_woven tail)
@@ -275,10 +284,10 @@ module _ (p : Core) (h : Hooks) (j : ℕ) (IsTheirs : ℕ → Type 0) (ss : List
   assign_simulated q u b d false e n su sd D tail rest rest' simulated =
       let both : (is_plain_place q && is_operand d) ≡ true = subst (λ c. ((c && (is_silent d || (is_place_value d || is_single_call d))) || (is_plain_place q && is_operand d)) ≡ true) e n in
       subst (λ c. PartSimulatedHere rest rest' (λ rest. run_statement (st.Eval (ex.Assign' q u b (more_of-Expr d end_of-Expr))) (λ c. sm.on_next strict D c rest)) (run_woven (cond c (code_before_value hook_points here.function d) (code_before hook_points here.function place.Write (access_substitution q u)) ++ (st.Eval (ex.Assign' q u b (more_of-Expr d end_of-Expr)) ∷ tail)))) (sym e)
-        (write_simulated p h j IsTheirs ss ready here outer source_call woven_call bound first q u b d (and_left (is_plain_place q) (is_operand d) both) (and_right (is_plain_place q) (is_operand d) both) su D tail rest rest' simulated)
+      (write_simulated p h j IsTheirs ss ready here outer source_call woven_call bound first q u b d (and_left (is_plain_place q) (is_operand d) both) (and_right (is_plain_place q) (is_operand d) both) su D tail rest rest' simulated)
   assign_simulated (ex.Own v) u b d true e n su sd D tail rest rest' simulated =
       subst (λ c. PartSimulatedHere rest rest' (λ rest. run_statement (st.Eval (ex.Assign' (ex.Own v) u b (more_of-Expr d end_of-Expr))) (λ c. sm.on_next strict D c rest)) (run_woven (cond c (code_before_value hook_points here.function d) (code_before hook_points here.function place.Write (access_substitution (ex.Own v) u)) ++ (st.Eval (ex.Assign' (ex.Own v) u b (more_of-Expr d end_of-Expr)) ∷ tail)))) (sym e)
-        (assign_register v e u b d (is_silent d) refl (chosen_left (is_silent d || (is_place_value d || is_single_call d)) (is_operand d) (subst (λ c. ((c && (is_silent d || (is_place_value d || is_single_call d))) || (not c && is_operand d)) ≡ true) e n)) sd D tail rest rest' simulated)
+      (assign_register v e u b d (is_silent d) refl (chosen_left (is_silent d || (is_place_value d || is_single_call d)) (is_operand d) (subst (λ c. ((c && (is_silent d || (is_place_value d || is_single_call d))) || (not c && is_operand d)) ≡ true) e n)) sd D tail rest rest' simulated)
     where
       chosen_left : (a c : Bool) → (a || false) ≡ true → a ≡ true
       chosen_left a c x = or_false a x

@@ -125,9 +125,9 @@ image_put a outer g names.GhostLocal i c =
     let fn = at_block (set_cell c 0) i in
     let f = own_frame a (frame_of a g.frames) in
     ap (λ (fs : List Frame). let m : Memory = record g { frames = fs } in m)
-      (ap (λ (o : Option Frame). own_frame a o ∷ outer) (own_frame_after fn a g.frames)
-      ∙ (ap (λ (f : Frame). f ∷ outer) (own_changed fn a (frame_of a g.frames) refl)
-      ∙ sym (chosen (f.activation == a) (with_locals fn f ∷ outer) (f ∷ at_frame fn a outer) (own_activation a g.frames))))
+    (ap (λ (o : Option Frame). own_frame a o ∷ outer) (own_frame_after fn a g.frames)
+    ∙ (ap (λ (f : Frame). f ∷ outer) (own_changed fn a (frame_of a g.frames) refl)
+    ∙ sym (chosen (f.activation == a) (with_locals fn f ∷ outer) (f ∷ at_frame fn a outer) (own_activation a g.frames))))
 
 pub image_type : (a : ℕ) (outer : List Frame) (g : Memory) (k : NameKind) (i : ℕ) → ghost_type g k a i ≡ ghost_type (image a outer g) k a i
 image_type a outer g names.Global i = refl

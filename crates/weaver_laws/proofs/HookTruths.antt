@@ -140,7 +140,7 @@ module _ (layouts : List Layout) (here : Here) (m : Memory) (r : Registers) (bas
     holds_same (Relation o d e) h = ap₂ (λ a b. related o a b) (value_same layouts here m r base x w at f st substitutes m_in g G g_in same_globals same_own d h.1).0 (value_same layouts here m r base x w at f st substitutes m_in g G g_in same_globals same_own e h.2).0
     holds_same (Valid l) h =
         ap₂ (λ v b. not (is_null v) && b) (value_same layouts here m r base x w at f st substitutes m_in g G g_in same_globals same_own l.base h.1.0).0
-          (defined_same (denoted (in_fold) l) (seen_located l h.1) ∙ ap (λ o. when_defined (may_access_all (in_woven)) o) (valid_same l h.1 h.0))
+        (defined_same (denoted (in_fold) l) (seen_located l h.1) ∙ ap (λ o. when_defined (may_access_all (in_woven)) o) (valid_same l h.1 h.0))
     holds_same (Separated ls) h =
         plain_defined (all_defined (map (denoted (in_fold)) ls))
         ∙ (ap (λ o. when_defined are_disjoint_in_pairs o) (all_located ls h.1 h.0)

@@ -103,11 +103,11 @@ module _ (p : Core) (h : Hooks) (j : ℕ) (IsTheirs : ℕ → Type 0) (ss : List
 
   exits_after : (D : Resting Completion) (tail : List Stmt) (rest rest' : Completion → State → Registers → Trace) → ExitsSimulatedHere rest rest' → ExitsSimulatedHere (source_onward D rest) (woven_onward tail rest')
   exits_after D tail rest rest' exits = record {
-      broken = λ s g good vs r b o f. exits.broken s g good vs r b o f;
-      continued = λ s g good vs r b o f. exits.continued s g good vs r b o f;
-      returns_step = λ v s r f. exits.returns_step v s r f;
-      returned = λ v s g good vs r b b' m f. exits.returned v s g good vs r b b' m f;
-    }
+    broken = λ s g good vs r b o f. exits.broken s g good vs r b o f;
+    continued = λ s g good vs r b o f. exits.continued s g good vs r b o f;
+    returns_step = λ v s r f. exits.returns_step v s r f;
+    returned = λ v s g good vs r b b' m f. exits.returned v s g good vs r b b' m f;
+  }
 
   end_simulated : (D : Resting Completion) (tail : List Stmt) (rest rest' : Completion → State → Registers → Trace) → PartSimulatedHere rest rest' D (run_woven tail) → PartSimulatedHere (source_onward D rest) (woven_onward tail rest') (strict.pure Next) (run_woven [])
   end_simulated D tail rest rest' simulated = record { by = λ s g good vs r b o f. simulated.by s g good vs r b o f }
@@ -121,21 +121,23 @@ module _ (p : Core) (h : Hooks) (j : ℕ) (IsTheirs : ℕ → Type 0) (ss : List
       → SimulatedHere g good vs (run_statement x (source_onward D rest) s r) (exec resting p.layouts woven_call here bound (st.Block (woven_statement hook_points here.function true x [])) (woven_onward tail rest') (woven_state s g) r)
   branch x part_simulated D tail rest rest' exits simulated s g good vs r b o f =
       subst (λ (d : Resting Completion). SimulatedHere g good vs (run_statement x (source_onward D rest) s r) (d (woven_onward tail rest') (woven_state s g) r)) (sym (block_row (woven_statement hook_points here.function true x [])))
-        (subst (λ k. IsProper p false (run_statement x k s r) → SimulatedHere g good vs (run_statement x k s r) (run_woven (woven_statement hook_points here.function true x []) (woven_onward tail rest') (woven_state s g) r)) (next_unit (source_onward D rest))
-          (λ f. (part_simulated true (strict.pure Next) [] (source_onward D rest) (woven_onward tail rest') (exits_after D tail rest rest' exits) (end_simulated D tail rest rest' simulated)).by s g good vs r b o f)
-          f)
+      (subst (λ k. IsProper p false (run_statement x k s r) → SimulatedHere g good vs (run_statement x k s r) (run_woven (woven_statement hook_points here.function true x []) (woven_onward tail rest') (woven_state s g) r)) (next_unit (source_onward D rest))
+      (λ f. (part_simulated true (strict.pure Next) [] (source_onward D rest) (woven_onward tail rest') (exits_after D tail rest rest' exits) (end_simulated D tail rest rest' simulated)).by s g good vs r b o f)
+      f)
 
   if_simulated : (e : Expr) (b c : _) (x y : Stmt) → is_operand e ≡ true → StatementSimulated x → StatementSimulated y → StatementSimulated (st.If' e b (more_of-Stmt x end_of-Stmt) c (more_of-Stmt y end_of-Stmt))
-  if_simulated e b c x y oe sx sy w D tail rest rest' exits simulated = record { by = λ s g good vs r body opened proper.
-      let X = st.Block (woven_statement hook_points here.function true x []) in
-      let Y = st.Block (woven_statement hook_points here.function true y []) in
-      let k = λ (v : Value). cond (truth v) (run_statement x) (run_statement y) (source_onward D rest) in
-      let k' = λ (v : Value). cond (truth v) (exec resting p.layouts woven_call here bound X) (exec resting p.layouts woven_call here bound Y) (woven_onward tail rest') in
-      let t = eval strict p.layouts source_call here e k s r in
-      held_case p h j IsTheirs ss ready here outer source_call woven_call bound first (operand_value e r) k s r t (operand_strict here p.layouts source_call e oe k s r) proper (SimulatedHere g good vs t (eval resting p.layouts woven_call here e k' (woven_state s g) r)) (λ v ev et.
+  if_simulated e b c x y oe sx sy w D tail rest rest' exits simulated = record {
+    by = λ s g good vs r body opened proper.
+        let X = st.Block (woven_statement hook_points here.function true x []) in
+        let Y = st.Block (woven_statement hook_points here.function true y []) in
+        let k = λ (v : Value). cond (truth v) (run_statement x) (run_statement y) (source_onward D rest) in
+        let k' = λ (v : Value). cond (truth v) (exec resting p.layouts woven_call here bound X) (exec resting p.layouts woven_call here bound Y) (woven_onward tail rest') in
+        let t = eval strict p.layouts source_call here e k s r in
+        held_case p h j IsTheirs ss ready here outer source_call woven_call bound first (operand_value e r) k s r t (operand_strict here p.layouts source_call e oe k s r) proper (SimulatedHere g good vs t (eval resting p.layouts woven_call here e k' (woven_state s g) r)) (λ v ev et.
         subst (λ t. SimulatedHere g good vs t (eval resting p.layouts woven_call here e k' (woven_state s g) r)) (sym et)
-          (subst (λ u. SimulatedHere g good vs (k v s r) u) (sym (operand_run here p.layouts woven_call e oe v r ev k' (woven_state s g)))
-            (either (truth v) s g good vs r body opened (subst (λ t. IsProper p false t) et proper)))) }
+        (subst (λ u. SimulatedHere g good vs (k v s r) u) (sym (operand_run here p.layouts woven_call e oe v r ev k' (woven_state s g)))
+        (either (truth v) s g good vs r body opened (subst (λ t. IsProper p false t) et proper))));
+  }
     where
       either : (t : Bool) (s : State) (g : Memory) (good : Bool) (vs : List Verdict) (r : Registers) → InBodyHere s g → PartlyAsserted p h j IsTheirs ss ready here outer s g good vs → IsProper p false (cond t (run_statement x) (run_statement y) (source_onward D rest) s r)
           → SimulatedHere g good vs (cond t (run_statement x) (run_statement y) (source_onward D rest) s r) (cond t (exec resting p.layouts woven_call here bound (st.Block (woven_statement hook_points here.function true x []))) (exec resting p.layouts woven_call here bound (st.Block (woven_statement hook_points here.function true y []))) (woven_onward tail rest') (woven_state s g) r)
@@ -166,26 +168,30 @@ module _ (p : Core) (h : Hooks) (j : ℕ) (IsTheirs : ℕ → Type 0) (ss : List
     turns_simulated zero s g good vs r b a f = (refl, λ e. absurd e)
     turns_simulated (suc n) s g good vs r b a f =
         turned p h j IsTheirs ss ready here outer source_call woven_call bound first s g good vs b a (run_statement x (source_again n) s r) (turn' (woven_again n) (woven_state s g) r) f (λ good'.
-          subst (λ (d : Resting Completion). SimulatedHere g good' [] (run_statement x (source_again n) s r) (d (woven_again n) (woven_state s g) r)) (sym (block_row (woven_statement hook_points here.function true x (changed_code hook_points here.function))))
-            (subst (λ k. IsProper p false (run_statement x k s r) → SimulatedHere g good' [] (run_statement x k s r) (run_woven (woven_statement hook_points here.function true x (changed_code hook_points here.function)) (woven_again n) (woven_state s g) r)) (next_unit (source_again n))
-              (λ f. (part_simulated true (strict.pure Next) (changed_code hook_points here.function) (source_again n) (woven_again n)
-                  (record {
-                    broken = λ s g good vs r b o f. simulated.by s g good vs r b o f;
-                    continued = λ s g good vs r b a f. turns_simulated n s g good vs r b a f;
-                    returns_step = λ v s r f. exits.returns_step v s r f;
-                    returned = λ v s g good vs r b b' m f. exits.returned v s g good vs r b b' m f;
-                  })
-                  (record { by = λ s g good vs r b o f.
-                      subst (λ c. SimulatedHere g good vs (loop n s r) (run_woven c (woven_again n) (woven_state s g) r)) (append-nil (changed_code hook_points here.function))
-                        (assert_changed p h j IsTheirs ss ready here outer source_call woven_call bound first s r g good vs b o (loop n s r) [] (woven_again n) (λ ws a. turns_simulated n s g good ws r b a f)) })).by s g good' [] r b (exact_open p h j IsTheirs ss ready here outer s g good') f)
-              f.1))
+        subst (λ (d : Resting Completion). SimulatedHere g good' [] (run_statement x (source_again n) s r) (d (woven_again n) (woven_state s g) r)) (sym (block_row (woven_statement hook_points here.function true x (changed_code hook_points here.function))))
+        (subst (λ k. IsProper p false (run_statement x k s r) → SimulatedHere g good' [] (run_statement x k s r) (run_woven (woven_statement hook_points here.function true x (changed_code hook_points here.function)) (woven_again n) (woven_state s g) r)) (next_unit (source_again n))
+        (λ f. (part_simulated true (strict.pure Next) (changed_code hook_points here.function) (source_again n) (woven_again n)
+        (record {
+          broken = λ s g good vs r b o f. simulated.by s g good vs r b o f;
+          continued = λ s g good vs r b a f. turns_simulated n s g good vs r b a f;
+          returns_step = λ v s r f. exits.returns_step v s r f;
+          returned = λ v s g good vs r b b' m f. exits.returned v s g good vs r b b' m f;
+        })
+        (record {
+          by = λ s g good vs r b o f.
+              subst (λ c. SimulatedHere g good vs (loop n s r) (run_woven c (woven_again n) (woven_state s g) r)) (append-nil (changed_code hook_points here.function))
+              (assert_changed p h j IsTheirs ss ready here outer source_call woven_call bound first s r g good vs b o (loop n s r) [] (woven_again n) (λ ws a. turns_simulated n s g good ws r b a f));
+        })).by s g good' [] r b (exact_open p h j IsTheirs ss ready here outer s g good') f)
+        f.1))
 
   while_simulated : (k : IntKind) (n : ℕ) (b : _) (x : Stmt) → n ≡ 1 → StatementSimulated x → StatementSimulated (st.While' (ex.Literal k (pos n)) b (more_of-Stmt x end_of-Stmt))
   while_simulated k n b x e part_simulated w D tail rest rest' exits simulated =
       subst (λ n. PartSimulatedHere rest rest' (λ rest. run_statement (st.While' (ex.Literal k (pos n)) b (more_of-Stmt x end_of-Stmt)) (source_onward D rest)) (run_woven (woven_statement hook_points here.function w (st.While' (ex.Literal k (pos n)) b (more_of-Stmt x end_of-Stmt)) tail))) (sym e)
-        (record { by = λ s g good vs r body opened proper.
+      (record {
+        by = λ s g good vs r body opened proper.
             assert_changed p h j IsTheirs ss ready here outer source_call woven_call bound first s r g good vs body opened (sm.turns strict here (run_statement x) bound (source_onward D rest) s r) (st.While' (ex.Literal k (pos 1)) b (more_of-Stmt (st.Block (woven_statement hook_points here.function true x (changed_code hook_points here.function))) end_of-Stmt) ∷ tail) rest'
-              (λ ws a. turns_simulated x part_simulated D tail rest rest' exits simulated bound s g good ws r body a proper) })
+            (λ ws a. turns_simulated x part_simulated D tail rest rest' exits simulated bound s g good ws r body a proper);
+      })
 
   -- ---- all statements
 
@@ -207,18 +213,24 @@ module _ (p : Core) (h : Hooks) (j : ℕ) (IsTheirs : ℕ → Type 0) (ss : List
   RowSimulated xs = (D : Resting Completion) (tail : List Stmt) (rest rest' : Completion → State → Registers → Trace) → ExitsSimulatedHere rest rest' → PartSimulatedHere rest rest' D (run_woven tail) → PartSimulatedHere rest rest' (row_then xs D) (run_woven (woven_row hook_points here.function xs tail))
 
   block_simulated : (b : _) (xs : Row_of-Stmt _) → RowSimulated xs → StatementSimulated (st.Block' b xs)
-  block_simulated b xs part_simulated true D tail rest rest' exits simulated = record { by = λ s g good vs r body o f.
-      subst (λ (t : State → Registers → Trace). IsProper p false (t s r) → SimulatedHere g good vs (t s r) (run_woven (woven_row hook_points here.function xs tail) rest' (woven_state s g) r)) (sym (row_is xs D rest)) (λ f. (part_simulated D tail rest rest' exits simulated).by s g good vs r body o f) f }
-  block_simulated b xs part_simulated false D tail rest rest' exits simulated = record { by = λ s g good vs r body o f.
-      subst (λ (d : Resting Completion). SimulatedHere g good vs (run_row xs (source_onward D rest) s r) (d (woven_onward tail rest') (woven_state s g) r)) (sym (block_row (woven_row hook_points here.function xs [])))
+  block_simulated b xs part_simulated true D tail rest rest' exits simulated = record {
+    by = λ s g good vs r body o f.
+        subst (λ (t : State → Registers → Trace). IsProper p false (t s r) → SimulatedHere g good vs (t s r) (run_woven (woven_row hook_points here.function xs tail) rest' (woven_state s g) r)) (sym (row_is xs D rest)) (λ f. (part_simulated D tail rest rest' exits simulated).by s g good vs r body o f) f;
+  }
+  block_simulated b xs part_simulated false D tail rest rest' exits simulated = record {
+    by = λ s g good vs r body o f.
+        subst (λ (d : Resting Completion). SimulatedHere g good vs (run_row xs (source_onward D rest) s r) (d (woven_onward tail rest') (woven_state s g) r)) (sym (block_row (woven_row hook_points here.function xs [])))
         (subst (λ k. IsProper p false (run_row xs k s r) → SimulatedHere g good vs (run_row xs k s r) (run_woven (woven_row hook_points here.function xs []) (woven_onward tail rest') (woven_state s g) r)) (next_unit (source_onward D rest))
-          (λ f. subst (λ (t : State → Registers → Trace). IsProper p false (t s r) → SimulatedHere g good vs (t s r) (run_woven (woven_row hook_points here.function xs []) (woven_onward tail rest') (woven_state s g) r)) (sym (row_is xs (strict.pure Next) (source_onward D rest)))
-            (λ f. (part_simulated (strict.pure Next) [] (source_onward D rest) (woven_onward tail rest') (exits_after D tail rest rest' exits) (end_simulated D tail rest rest' simulated)).by s g good vs r body o f) f)
-          f) }
+        (λ f. subst (λ (t : State → Registers → Trace). IsProper p false (t s r) → SimulatedHere g good vs (t s r) (run_woven (woven_row hook_points here.function xs []) (woven_onward tail rest') (woven_state s g) r)) (sym (row_is xs (strict.pure Next) (source_onward D rest)))
+        (λ f. (part_simulated (strict.pure Next) [] (source_onward D rest) (woven_onward tail rest') (exits_after D tail rest rest' exits) (end_simulated D tail rest rest' simulated)).by s g good vs r body o f) f)
+        f);
+  }
 
   continue_simulated : StatementSimulated st.Continue
-  continue_simulated w D tail rest rest' exits simulated = record { by = λ s g good vs r body opened proper.
-      assert_changed p h j IsTheirs ss ready here outer source_call woven_call bound first s r g good vs body opened (rest Continued s r) (st.Continue ∷ tail) rest' (λ ws a. exits.continued s g good ws r body a proper) }
+  continue_simulated w D tail rest rest' exits simulated = record {
+    by = λ s g good vs r body opened proper.
+        assert_changed p h j IsTheirs ss ready here outer source_call woven_call bound first s r g good vs body opened (rest Continued s r) (st.Continue ∷ tail) rest' (λ ws a. exits.continued s g good ws r body a proper);
+  }
 
   while_of : (e : Expr) (b : _) (x : Stmt) → is_literal_one e ≡ true → StatementSimulated x → StatementSimulated (st.While' e b (more_of-Stmt x end_of-Stmt))
   while_of (ex.Literal k (pos n)) b x o part_simulated = while_simulated k n b x (eqb-true n 1 (and_right (same_int_kind k kind.Int) (n == 1) o)) part_simulated
@@ -265,11 +277,11 @@ module _ (p : Core) (h : Hooks) (j : ℕ) (IsTheirs : ℕ → Type 0) (ss : List
     row_simulated end_of-Stmt n c D tail rest rest' exits simulated = simulated
     row_simulated (more_of-Stmt x more) n c D tail rest rest' exits simulated =
         statement_simulated x (and_left (is_normal x) (are_normal more) n) (and_left (scalars_in x) (scalars_in_row more) c) false (row_then more D) (woven_row hook_points here.function more tail) rest rest' exits
-          (row_simulated more (and_right (is_normal x) (are_normal more) n) (and_right (scalars_in x) (scalars_in_row more) c) D tail rest rest' exits simulated)
+        (row_simulated more (and_right (is_normal x) (are_normal more) n) (and_right (scalars_in x) (scalars_in_row more) c) D tail rest rest' exits simulated)
 
   -- the statements of a body, before what stands at its end
   pub body_simulated : (xs : List Stmt) → all_normal xs ≡ true → scalars_in_all xs ≡ true → (tail : List Stmt) (rest rest' : Completion → State → Registers → Trace) → ExitsSimulatedHere rest rest' → PartSimulatedHere rest rest' (strict.pure Next) (run_woven tail) → PartSimulatedHere rest rest' (exec_all strict p.layouts source_call here bound xs) (run_woven (woven_all hook_points here.function xs tail))
   body_simulated [] n c tail rest rest' exits simulated = simulated
   body_simulated (x ∷ xs) n c tail rest rest' exits simulated =
       statement_simulated x (and_left (is_normal x) (all_normal xs) n) (and_left (scalars_in x) (scalars_in_all xs) c) false (exec_all strict p.layouts source_call here bound xs) (woven_all hook_points here.function xs tail) rest rest' exits
-        (body_simulated xs (and_right (is_normal x) (all_normal xs) n) (and_right (scalars_in x) (scalars_in_all xs) c) tail rest rest' exits simulated)
+      (body_simulated xs (and_right (is_normal x) (all_normal xs) n) (and_right (scalars_in x) (scalars_in_all xs) c) tail rest rest' exits simulated)

@@ -123,7 +123,7 @@ module _ (q : Core) (h : Hooks) (before : ℕ → ℕ) (all : Hooks) (slots : Sl
           let e : h.first + k ≡ i = omega arith in
           let c : k < length h.globals = omega arith in
           subst (λ i. slice_get (replicate all.first not_own ++ all.globals) i ≡ slice_get (replicate h.first not_own ++ h.globals) i) e
-            (ap (λ (n : ℕ). slice_get (replicate n not_own ++ all.globals) (h.first + k)) slots.first ∙ (slots.globals k c ∙ sym (after_not_own h.first k h.globals)))
+          (ap (λ (n : ℕ). slice_get (replicate n not_own ++ all.globals) (h.first + k)) slots.first ∙ (slots.globals k c ∙ sym (after_not_own h.first k h.globals)))
 
   module _ (pt : HookPoint) (fits : PointFits q h pt) where
     abbrev n : ℕ

@@ -89,8 +89,8 @@ put_frame g a i b k c = by (b == a) refl
   where
     by : (d : Bool) → (b == a) ≡ d → frame_block (ghost_put g names.GhostLocal a i c) b k ≡ cond (d && k == i) (option_map (set_cell c 0) (frame_block g b k)) (frame_block g b k)
     by true e = rw (eqb-true b a e)
-      (ap (λ (o : Option Frame). option_and_then (λ (f : Frame). slice_get f.locals k) o) (own_frame_after (at_block (set_cell c 0) i) a g.frames)
-      ∙ (in_locals (at_block (set_cell c 0) i) k (frame_of a g.frames) ∙ put_locals (set_cell c 0) i k (frame_of a g.frames)))
+        (ap (λ (o : Option Frame). option_and_then (λ (f : Frame). slice_get f.locals k) o) (own_frame_after (at_block (set_cell c 0) i) a g.frames)
+        ∙ (in_locals (at_block (set_cell c 0) i) k (frame_of a g.frames) ∙ put_locals (set_cell c 0) i k (frame_of a g.frames)))
     by false e = ap (λ (o : Option Frame). option_and_then (λ (f : Frame). slice_get f.locals k) o) (frame_after (at_block (set_cell c 0) i) a b g.frames e)
 
 pub put_framed : (g : Memory) (k : NameKind) (a i b : ℕ) (c : Cell) → is_some (frame_of b (ghost_put g k a i c).frames) ≡ is_some (frame_of b g.frames)

@@ -149,12 +149,12 @@ module _ (here : Here) where
           silent_bind (silent_eval e (and_left (is_silent e) (is_silent f && is_silent g) h)) (λ v. silent_cond (truth v) (silent_eval f (and_left (is_silent f) (is_silent g) more)) (silent_eval g (and_right (is_silent f) (is_silent g) more)))
       silent_eval (Assign' q t b (more_of-Expr e end_of-Expr)) h =
           silent_register q (and_left (is_register q) (is_silent e) h) (λ l. strict.bind (source_value e) (acc.store strict here t l)) (λ l. resting.bind (woven_value e) (acc.store resting here t l))
-            (λ i. silent_bind (silent_eval e (and_right (is_register q) (is_silent e) h)) (λ v. silent_store t i v))
+          (λ i. silent_bind (silent_eval e (and_right (is_register q) (is_silent e) h)) (λ v. silent_store t i v))
       silent_eval (Update' q t o b (more_of-Expr e end_of-Expr) w) h =
           silent_register q (and_left (is_register q) (is_silent e) h)
-            (λ l. strict.bind (acc.load strict here t l) (λ old. strict.bind (source_value e) (λ v. strict.bind (acc.updated strict here t o old v) (λ new. strict.bind (acc.store strict here t l new) (λ x. strict.pure (acc.answer w old new))))))
-            (λ l. resting.bind (acc.load resting here t l) (λ old. resting.bind (woven_value e) (λ v. resting.bind (acc.updated resting here t o old v) (λ new. resting.bind (acc.store resting here t l new) (λ x. resting.pure (acc.answer w old new))))))
-            (λ i. silent_bind (silent_load t i) (λ old. silent_bind (silent_eval e (and_right (is_register q) (is_silent e) h)) (λ v. silent_bind (silent_updated t o old v) (λ new. silent_bind (silent_store t i new) (λ x. silent_pure _)))))
+          (λ l. strict.bind (acc.load strict here t l) (λ old. strict.bind (source_value e) (λ v. strict.bind (acc.updated strict here t o old v) (λ new. strict.bind (acc.store strict here t l new) (λ x. strict.pure (acc.answer w old new))))))
+          (λ l. resting.bind (acc.load resting here t l) (λ old. resting.bind (woven_value e) (λ v. resting.bind (acc.updated resting here t o old v) (λ new. resting.bind (acc.store resting here t l new) (λ x. resting.pure (acc.answer w old new))))))
+          (λ i. silent_bind (silent_load t i) (λ old. silent_bind (silent_eval e (and_right (is_register q) (is_silent e) h)) (λ v. silent_bind (silent_updated t o old v) (λ new. silent_bind (silent_store t i new) (λ x. silent_pure _)))))
       silent_eval (Invoke' f b es) h = absurd (no_false h)
       silent_eval GetChar h = absurd (no_false h)
       silent_eval (PutChar' b (more_of-Expr e end_of-Expr)) h = absurd (no_false h)

@@ -87,9 +87,11 @@ module _ (p : Core) (h : Hooks) (j : ℕ) (IsTheirs : ℕ → Type 0) (ss : List
 
     calls_simulated : (d : ℕ) → CallsSimulated p h j IsTheirs ss (ca.calls strict p k d) (ca.calls resting q k d)
     calls_simulated zero = record { by = λ n vs s g outer good i b rest rest' caller f. (refl, λ e. absurd e) }
-    calls_simulated (suc d) = record { by = λ n vs s g outer good i b rest rest' caller proper.
-        subst (λ o. SimulatedHere g good [] (ca.calls strict p k (suc d) n vs rest s) (ca.call_of resting q k (ca.calls resting q k d) n o vs rest' (record s { ghosts = below p h j IsTheirs ss g outer }))) (sym (function_at p h n))
-          (called (calls_simulated d) n vs s g outer good i b rest rest' caller (slice_get p.functions n) refl proper) }
+    calls_simulated (suc d) = record {
+      by = λ n vs s g outer good i b rest rest' caller proper.
+          subst (λ o. SimulatedHere g good [] (ca.calls strict p k (suc d) n vs rest s) (ca.call_of resting q k (ca.calls resting q k d) n o vs rest' (record s { ghosts = below p h j IsTheirs ss g outer }))) (sym (function_at p h n))
+          (called (calls_simulated d) n vs s g outer good i b rest rest' caller (slice_get p.functions n) refl proper);
+    }
       where
         bodied : CallsSimulated p h j IsTheirs ss (ca.calls strict p k d) (ca.calls resting q k d) → (n : ℕ) (vs : List Value) (s : State) (g : Memory) (outer : List Frame) (good : Bool) → MemoryInside g → AllByRecursion (λ n. n < s.made) (numbers g.frames) → (rest rest' : Value → State → Trace) → CallerSimulated p h j IsTheirs ss s g outer rest rest'
             → (f : Function) → slice_get p.functions n ≡ Some f → (o : Option (List Stmt)) → f.body ≡ o → IsProper p false (ca.call_body strict p k (ca.calls strict p k d) n f o vs rest s)
@@ -131,4 +133,4 @@ module _ (p : Core) (h : Hooks) (j : ℕ) (IsTheirs : ℕ → Type 0) (ss : List
     run_simulated zero_first input proper =
         let begin : Memory = record { globals = map (ghost_block p.layouts) h.globals; frames = []; heap = [] } in
         subst (λ g. SimulatedHere g true [] (strict_run p input k) (run q input k)) (sym (ap (λ n. let m : Memory = record { globals = replicate n [] ++ map (ghost_block p.layouts) h.globals; frames = []; heap = [] } in m) zero_first))
-          ((calls_simulated k).by p.start [] (start_state p input) begin [] true (record { globals = start_inside h.globals; frames = tt; heap = tt }) tt (λ v s. Stop (exit_of v)) (λ v s. Stop (exit_of v)) (λ v s g good i b l e f. (refl, λ e. refl)) proper)
+        ((calls_simulated k).by p.start [] (start_state p input) begin [] true (record { globals = start_inside h.globals; frames = tt; heap = tt }) tt (λ v s. Stop (exit_of v)) (λ v s. Stop (exit_of v)) (λ v s g good i b l e f. (refl, λ e. refl)) proper)

@@ -109,8 +109,8 @@ module _ (p : Core) (h : Hooks) (j : ℕ) (IsTheirs : ℕ → Type 0) (ss : List
   asserted_same (Assert Safe n q ∷ c) o s r g m_in g_in =
       let G = image here.activation outer g in
       ap₂ (λ (b : Bool) (vs : List Verdict). let v : Verdict = record { monitor = n; kind = Safe; truth = b } in v ∷ vs)
-        (holds_same p.layouts here s.memory r G no_parts false place.Changed here.function empty_substitution (changed_substitutes p h j IsTheirs ss here s.memory r no_parts here.function G) m_in g G g_in (λ w. no_true w) (image_block here.activation outer g) q o.0.1)
-        (asserted_same c o.1 s r g m_in g_in)
+      (holds_same p.layouts here s.memory r G no_parts false place.Changed here.function empty_substitution (changed_substitutes p h j IsTheirs ss here s.memory r no_parts here.function G) m_in g G g_in (λ w. no_true w) (image_block here.activation outer g) q o.0.1)
+      (asserted_same c o.1 s r g m_in g_in)
   asserted_same (_ ∷ c) o s r g m_in g_in = absurd o.0
 
   asserted_accept : (c : List Stmt) → AreChangedAssertions p h j IsTheirs ss here.function c → (s : State) (r : Registers) (G : Memory) → accept_verdicts j (asserted_verdicts s r G c) ≡ []
@@ -149,9 +149,9 @@ module _ (p : Core) (h : Hooks) (j : ℕ) (IsTheirs : ℕ → Type 0) (ss : List
   changed_matches a e s g good vs i b o =
       let x = step_parts ss (step_here a s) in
       let c : verdicts_here a s g ≡ verdicts_of_code (sight_in_fold p.layouts here s.memory [] no_memory no_parts no_memory) changed_statements g =
-          verdicts_are p h j IsTheirs ss ready here outer a s g b.own
-          ∙ (ap (λ pl. verdicts_of_code (sight_in_fold p.layouts here s.memory [] no_memory x no_memory) (code_for h.points here.function pl) g) e
-          ∙ assertions_same p h j IsTheirs ss here s.memory here.function i changed_statements assertions_here x no_parts g g b.inside b.inside refl) in
+      verdicts_are p h j IsTheirs ss ready here outer a s g b.own
+      ∙ (ap (λ pl. verdicts_of_code (sight_in_fold p.layouts here s.memory [] no_memory x no_memory) (code_for h.points here.function pl) g) e
+      ∙ assertions_same p h j IsTheirs ss here s.memory here.function i changed_statements assertions_here x no_parts g g b.inside b.inside refl) in
       record {
         truths = o.truths i ∙ ap (λ vs. all_safe j vs && good) (sym c);
         accepted = o.accepted ∙ sym (ap (λ vs. accept_verdicts j vs) c ∙ assertions_accept p h j IsTheirs ss here.function changed_statements assertions_here (sight_in_fold p.layouts here s.memory [] no_memory no_parts no_memory) g);
@@ -170,9 +170,11 @@ module _ (p : Core) (h : Hooks) (j : ℕ) (IsTheirs : ℕ → Type 0) (ss : List
 
   pub turned : (s : State) (g : Memory) (good : Bool) (vs : List Verdict) → InBodyHere s g → AssertedHere s g good vs → (t u : Trace) → IsProper p false (Then (Made (step_here act.Turn s)) t)
       → ((good' : Bool) → SimulatedHere g good' [] t u) → SimulatedHere g good vs (Then (Made (step_here act.Turn s)) t) (Then (Made (step_here act.Turn s)) u)
-  turned s g good vs b o t u proper l =
-      (refl, changed_matches act.Turn refl s g good vs (step_inside p (step_here act.Turn s) proper.0) b o,
-       subst (λ g'. SimulatedHere g' (all_safe j (verdicts_here act.Turn s g) && good) [] t u) (sym (changed_ghosts act.Turn refl s g b)) (l (all_safe j (verdicts_here act.Turn s g) && good)))
+  turned s g good vs b o t u proper l = (
+    refl,
+    changed_matches act.Turn refl s g good vs (step_inside p (step_here act.Turn s) proper.0) b o,
+    subst (λ g'. SimulatedHere g' (all_safe j (verdicts_here act.Turn s g) && good) [] t u) (sym (changed_ghosts act.Turn refl s g b)) (l (all_safe j (verdicts_here act.Turn s g) && good)),
+  )
 
   -- ---- what comes after a statement
 
@@ -239,11 +241,12 @@ module _ (p : Core) (h : Hooks) (j : ℕ) (IsTheirs : ℕ → Type 0) (ss : List
   -- a place takes an operand
   pub write_simulated : (q : Place_) (u : CType) (b : _) (d : Expr) → is_plain_place q ≡ true → is_operand d ≡ true → is_scalar u ≡ true → (D : Resting Completion) (tail : List Stmt) (rest rest' : Completion → State → Registers → Trace) → PartSimulated rest rest' D (run_woven tail)
       → PartSimulated rest rest' (then_do (exec strict p.layouts source_call here bound (Eval (ex.Assign' q u b (more_of-Expr d end_of-Expr)))) D) (run_woven (code_before h.points here.function place.Write (access_substitution q u) ++ (Eval (ex.Assign' q u b (more_of-Expr d end_of-Expr)) ∷ tail)))
-  write_simulated q u b d oq od sc D tail rest rest' simulated = record { by = λ s g good vs r body opened proper.
-      let t = then_do (exec strict p.layouts source_call here bound (Eval (ex.Assign' q u b (more_of-Expr d end_of-Expr)))) D rest s r in
-      let goal = SimulatedHere g good vs t (run_woven (code_before h.points here.function place.Write (access_substitution q u) ++ (Eval (ex.Assign' q u b (more_of-Expr d end_of-Expr)) ∷ tail)) rest' (woven_state s g) r) in
-      held_case (place_value here q r) (λ w. eval strict p.layouts source_call here d (λ v. store strict here u (At w) v (λ x. D rest))) s r t (place_strict here p.layouts source_call q oq (λ l. eval strict p.layouts source_call here d (λ v. store strict here u l v (λ x. D rest))) s r) proper goal (λ w ew et.
-      held_case (operand_value d r) (λ v. store strict here u (At w) v (λ x. D rest)) s r t (et ∙ operand_strict here p.layouts source_call d od (λ v. store strict here u (At w) v (λ x. D rest)) s r) proper goal (λ v ev et'.
+  write_simulated q u b d oq od sc D tail rest rest' simulated = record {
+    by = λ s g good vs r body opened proper.
+        let t = then_do (exec strict p.layouts source_call here bound (Eval (ex.Assign' q u b (more_of-Expr d end_of-Expr)))) D rest s r in
+        let goal = SimulatedHere g good vs t (run_woven (code_before h.points here.function place.Write (access_substitution q u) ++ (Eval (ex.Assign' q u b (more_of-Expr d end_of-Expr)) ∷ tail)) rest' (woven_state s g) r) in
+        held_case (place_value here q r) (λ w. eval strict p.layouts source_call here d (λ v. store strict here u (At w) v (λ x. D rest))) s r t (place_strict here p.layouts source_call q oq (λ l. eval strict p.layouts source_call here d (λ v. store strict here u l v (λ x. D rest))) s r) proper goal (λ w ew et.
+        held_case (operand_value d r) (λ v. store strict here u (At w) v (λ x. D rest)) s r t (et ∙ operand_strict here p.layouts source_call d od (λ v. store strict here u (At w) v (λ x. D rest)) s r) proper goal (λ v ev et'.
         let a = act.Write w v in
         let t' = write_at strict here w v (reached s.memory w u) (λ x. D rest) s r in
         let proper' : IsProper p false (Then (Made (step_here a s)) t') = subst (λ t. IsProper p false t) et' proper in
@@ -251,9 +254,9 @@ module _ (p : Core) (h : Hooks) (j : ℕ) (IsTheirs : ℕ → Type 0) (ss : List
         let m_in = step_inside p (step_here a s) proper'.0 in
         let body' = stepped p h j IsTheirs ss ready here outer a refl s r (access_substitution q u) m_in substitutes first g body in
         subst (λ t. SimulatedHere g good vs t (run_woven (code_before h.points here.function place.Write (access_substitution q u) ++ (Eval (ex.Assign' q u b (more_of-Expr d end_of-Expr)) ∷ tail)) rest' (woven_state s g) r)) (sym et')
-          (announce p h j IsTheirs ss ready here outer a refl s r (access_substitution q u) m_in substitutes woven_call bound first g good vs body opened t' (Eval (ex.Assign' q u b (more_of-Expr d end_of-Expr)) ∷ tail) rest'
-            (λ G. write_at resting here w v (reached s.memory w u) (λ x. run_woven tail rest') (record s { ghosts = G }) r)
-            (λ G. place_run here p.layouts woven_call q oq w r ew (λ l. eval resting p.layouts woven_call here d (λ v. store resting here u l v (λ x. run_woven tail rest'))) (record s { ghosts = G })
-                ∙ operand_run here p.layouts woven_call d od v r ev (λ v. store resting here u (At w) v (λ x. run_woven tail rest')) (record s { ghosts = G }))
-            (write_on (reached s.memory w u) D tail rest rest' simulated s (ghosts_here a s g) (all_safe j (verdicts_here a s g) && good) r w v body' (asserted_after p h j IsTheirs ss ready here outer a refl s r (access_substitution q u) m_in substitutes first g good body) proper'.1))))
+        (announce p h j IsTheirs ss ready here outer a refl s r (access_substitution q u) m_in substitutes woven_call bound first g good vs body opened t' (Eval (ex.Assign' q u b (more_of-Expr d end_of-Expr)) ∷ tail) rest'
+        (λ G. write_at resting here w v (reached s.memory w u) (λ x. run_woven tail rest') (record s { ghosts = G }) r)
+        (λ G. place_run here p.layouts woven_call q oq w r ew (λ l. eval resting p.layouts woven_call here d (λ v. store resting here u l v (λ x. run_woven tail rest'))) (record s { ghosts = G })
+        ∙ operand_run here p.layouts woven_call d od v r ev (λ v. store resting here u (At w) v (λ x. run_woven tail rest')) (record s { ghosts = G }))
+        (write_on (reached s.memory w u) D tail rest rest' simulated s (ghosts_here a s g) (all_safe j (verdicts_here a s g) && good) r w v body' (asserted_after p h j IsTheirs ss ready here outer a refl s r (access_substitution q u) m_in substitutes first g good body) proper'.1))));
   }

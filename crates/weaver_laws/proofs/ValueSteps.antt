@@ -130,17 +130,17 @@ module _ (p : Core) (h : Hooks) (j : ℕ) (IsTheirs : ℕ → Type 0) (ss : List
       let t = eval strict p.layouts source_call here (ex.Load q u) k s r in
       let T' = code_before h.points here.function place.Read (access_substitution q u) ++ T in
       held_case p h j IsTheirs ss ready here outer source_call woven_call bound first (place_value here q r) (λ w. load strict here u (At w) k) s r t (place_strict here p.layouts source_call q oq (λ l. load strict here u l k) s r) proper (SimulatedHere g good vs t (run_woven T' rest' (woven_state s g) r)) (λ w ew et.
-        let a = act.Read w in
-        let t' = held strict here (reached s.memory w u) k s r in
-        let proper' : IsProper p false (Then (Made (step_here a s)) t') = subst (λ t. IsProper p false t) et proper in
-        let substitutes = read_substitutes s r q u w oq sc ew proper'.0 in
-        let m_in = step_inside p (step_here a s) proper'.0 in
-        let body' = stepped p h j IsTheirs ss ready here outer a refl s r (access_substitution q u) m_in substitutes first g body in
-        subst (λ t. SimulatedHere g good vs t (run_woven T' rest' (woven_state s g) r)) (sym et)
-          (announce p h j IsTheirs ss ready here outer a refl s r (access_substitution q u) m_in substitutes woven_call bound first g good vs body opened t' T rest'
-            (λ G. held resting here (reached s.memory w u) k' (record s { ghosts = G }) r)
-            (λ G. runs (record s { ghosts = G }) r ∙ place_run here p.layouts woven_call q oq w r ew (λ l. load resting here u l k') (record s { ghosts = G }))
-            (read_on (reached s.memory w u) k k' takes s (ghosts_here a s g) (all_safe j (verdicts_here a s g) && good) r body' (asserted_after p h j IsTheirs ss ready here outer a refl s r (access_substitution q u) m_in substitutes first g good body) proper'.1)))
+      let a = act.Read w in
+      let t' = held strict here (reached s.memory w u) k s r in
+      let proper' : IsProper p false (Then (Made (step_here a s)) t') = subst (λ t. IsProper p false t) et proper in
+      let substitutes = read_substitutes s r q u w oq sc ew proper'.0 in
+      let m_in = step_inside p (step_here a s) proper'.0 in
+      let body' = stepped p h j IsTheirs ss ready here outer a refl s r (access_substitution q u) m_in substitutes first g body in
+      subst (λ t. SimulatedHere g good vs t (run_woven T' rest' (woven_state s g) r)) (sym et)
+      (announce p h j IsTheirs ss ready here outer a refl s r (access_substitution q u) m_in substitutes woven_call bound first g good vs body opened t' T rest'
+      (λ G. held resting here (reached s.memory w u) k' (record s { ghosts = G }) r)
+      (λ G. runs (record s { ghosts = G }) r ∙ place_run here p.layouts woven_call q oq w r ew (λ l. load resting here u l k') (record s { ghosts = G }))
+      (read_on (reached s.memory w u) k k' takes s (ghosts_here a s g) (all_safe j (verdicts_here a s g) && good) r body' (asserted_after p h j IsTheirs ss ready here outer a refl s r (access_substitution q u) m_in substitutes first g good body) proper'.1)))
 
   -- ---- calls, input and output
 
@@ -170,8 +170,8 @@ module _ (p : Core) (h : Hooks) (j : ℕ) (IsTheirs : ℕ → Type 0) (ss : List
       let substitutes = call_substitutes a 0 refl refl s r in
       let m_in = step_inside p (step_here a s) proper.0 in
       announce p h j IsTheirs ss ready here outer a refl s r (call_substitution 0) m_in substitutes woven_call bound first g good vs body opened (acc.next_byte strict here s.input k s r) T rest'
-        (λ G. acc.next_byte resting here s.input k' (record s { ghosts = G }) r) (λ G. runs (record s { ghosts = G }) r)
-        (on_byte s.input k k' takes s (ghosts_here a s g) (all_safe j (verdicts_here a s g) && good) r (stepped p h j IsTheirs ss ready here outer a refl s r (call_substitution 0) m_in substitutes first g body) proper.1)
+      (λ G. acc.next_byte resting here s.input k' (record s { ghosts = G }) r) (λ G. runs (record s { ghosts = G }) r)
+      (on_byte s.input k k' takes s (ghosts_here a s g) (all_safe j (verdicts_here a s g) && good) r (stepped p h j IsTheirs ss ready here outer a refl s r (call_substitution 0) m_in substitutes first g body) proper.1)
 
   pub output_gives : (b : _) (d : Expr) → is_operand d ≡ true → ValueGiven (ex.PutChar' b (more_of-Expr d end_of-Expr)) place.Call (call_substitution 1)
   output_gives b d od k k' takes T rest' runs s g good vs r body opened proper =
@@ -179,19 +179,19 @@ module _ (p : Core) (h : Hooks) (j : ℕ) (IsTheirs : ℕ → Type 0) (ss : List
       let t = eval strict p.layouts source_call here e k s r in
       let T' = code_before h.points here.function place.Call (call_substitution 1) ++ T in
       held_case p h j IsTheirs ss ready here outer source_call woven_call bound first (operand_value d r) (λ v. acc.put_char strict here v k) s r t (operand_strict here p.layouts source_call d od (λ v. acc.put_char strict here v k) s r) proper (SimulatedHere g good vs t (run_woven T' rest' (woven_state s g) r)) (λ v ev et.
-        let n = low_bits 8 (integer v) in
-        let a = act.Output n in
-        let t' = k (value.Int (pos n)) s r in
-        let proper' : IsProper p false (Then (Made (step_here a s)) t') = subst (λ t. IsProper p false t) et proper in
-        let substitutes = call_substitutes a 1 refl refl s r in
-        let m_in = step_inside p (step_here a s) proper'.0 in
-        let g' = ghosts_here a s g in
-        let good' = all_safe j (verdicts_here a s g) && good in
-        subst (λ t. SimulatedHere g good vs t (run_woven T' rest' (woven_state s g) r)) (sym et)
-          (announce p h j IsTheirs ss ready here outer a refl s r (call_substitution 1) m_in substitutes woven_call bound first g good vs body opened t' T rest'
-            (λ G. k' (value.Int (pos n)) (record s { ghosts = G }) r)
-            (λ G. runs (record s { ghosts = G }) r ∙ operand_run here p.layouts woven_call d od v r ev (λ v. acc.put_char resting here v k') (record s { ghosts = G }))
-            (takes.by (value.Int (pos n)) s g' good' [] r (stepped p h j IsTheirs ss ready here outer a refl s r (call_substitution 1) m_in substitutes first g body) (exact_open p h j IsTheirs ss ready here outer s g' good') proper'.1)))
+      let n = low_bits 8 (integer v) in
+      let a = act.Output n in
+      let t' = k (value.Int (pos n)) s r in
+      let proper' : IsProper p false (Then (Made (step_here a s)) t') = subst (λ t. IsProper p false t) et proper in
+      let substitutes = call_substitutes a 1 refl refl s r in
+      let m_in = step_inside p (step_here a s) proper'.0 in
+      let g' = ghosts_here a s g in
+      let good' = all_safe j (verdicts_here a s g) && good in
+      subst (λ t. SimulatedHere g good vs t (run_woven T' rest' (woven_state s g) r)) (sym et)
+      (announce p h j IsTheirs ss ready here outer a refl s r (call_substitution 1) m_in substitutes woven_call bound first g good vs body opened t' T rest'
+      (λ G. k' (value.Int (pos n)) (record s { ghosts = G }) r)
+      (λ G. runs (record s { ghosts = G }) r ∙ operand_run here p.layouts woven_call d od v r ev (λ v. acc.put_char resting here v k') (record s { ghosts = G }))
+      (takes.by (value.Int (pos n)) s g' good' [] r (stepped p h j IsTheirs ss ready here outer a refl s r (call_substitution 1) m_in substitutes first g body) (exact_open p h j IsTheirs ss ready here outer s g' good') proper'.1)))
 
   -- ---- `malloc` and `free`
 
@@ -206,7 +206,7 @@ module _ (p : Core) (h : Hooks) (j : ℕ) (IsTheirs : ℕ → Type 0) (ss : List
       let g' = ghosts_here a s g in
       let good' = all_safe j (verdicts_here a s g) && good in
       announce p h j IsTheirs ss ready here outer a refl s r (call_substitution 2) m_in substitutes woven_call bound first g good vs body opened (k value.Null s r) T rest' (λ G. k' value.Null (record s { ghosts = G }) r) runs
-        (takes.by value.Null s g' good' [] r (stepped p h j IsTheirs ss ready here outer a refl s r (call_substitution 2) m_in substitutes first g body) (exact_open p h j IsTheirs ss ready here outer s g' good') proper.1)
+      (takes.by value.Null s g' good' [] r (stepped p h j IsTheirs ss ready here outer a refl s r (call_substitution 2) m_in substitutes first g body) (exact_open p h j IsTheirs ss ready here outer s g' good') proper.1)
   block_gives n (Some c) k k' takes T rest' s r runs g good vs body opened proper =
       let v = al.block_pointer s.allocated in
       let a = act.Malloc n v (length c) in
@@ -217,7 +217,7 @@ module _ (p : Core) (h : Hooks) (j : ℕ) (IsTheirs : ℕ → Type 0) (ss : List
       let good' = all_safe j (verdicts_here a s g) && good in
       let b = stepped p h j IsTheirs ss ready here outer a refl s r (call_substitution 2) m_in substitutes first g body in
       announce p h j IsTheirs ss ready here outer a refl s r (call_substitution 2) m_in substitutes woven_call bound first g good vs body opened (k v s' r) T rest' (λ G. k' v (record s' { ghosts = G }) r) runs
-        (takes.by v s' g' good' [] r (record { inside = b.inside; own = b.own; below = b.below; bounded = b.bounded; later = b.later }) (exact_open p h j IsTheirs ss ready here outer s' g' good') proper.1)
+      (takes.by v s' g' good' [] r (record { inside = b.inside; own = b.own; below = b.below; bounded = b.bounded; later = b.later }) (exact_open p h j IsTheirs ss ready here outer s' g' good') proper.1)
 
   pub malloc_gives : (b : _) (d : Expr) (u : CType) → is_operand d ≡ true → ValueGiven (ex.Malloc' b (more_of-Expr d end_of-Expr) u) place.Call (call_substitution 2)
   malloc_gives b d u od k k' takes T rest' runs s g good vs r body opened proper =
@@ -225,12 +225,12 @@ module _ (p : Core) (h : Hooks) (j : ℕ) (IsTheirs : ℕ → Type 0) (ss : List
       let t = eval strict p.layouts source_call here e k s r in
       let T' = code_before h.points here.function place.Call (call_substitution 2) ++ T in
       held_case p h j IsTheirs ss ready here outer source_call woven_call bound first (operand_value d r) (λ v. al.allocate strict here p.layouts u v k) s r t (operand_strict here p.layouts source_call d od (λ v. al.allocate strict here p.layouts u v k) s r) proper (SimulatedHere g good vs t (run_woven T' rest' (woven_state s g) r)) (λ v ev et.
-        let n = low_bits 64 (integer v) in
-        let o = al.block_for p.layouts u n in
-        subst (λ t. SimulatedHere g good vs t (run_woven T' rest' (woven_state s g) r)) (sym et)
-          (block_gives n o k k' takes T rest' s r
-            (λ G. runs (record s { ghosts = G }) r ∙ operand_run here p.layouts woven_call d od v r ev (λ v. al.allocate resting here p.layouts u v k') (record s { ghosts = G }))
-            g good vs body opened (subst (λ t. IsProper p false t) et proper)))
+      let n = low_bits 64 (integer v) in
+      let o = al.block_for p.layouts u n in
+      subst (λ t. SimulatedHere g good vs t (run_woven T' rest' (woven_state s g) r)) (sym et)
+      (block_gives n o k k' takes T rest' s r
+      (λ G. runs (record s { ghosts = G }) r ∙ operand_run here p.layouts woven_call d od v r ev (λ v. al.allocate resting here p.layouts u v k') (record s { ghosts = G }))
+      g good vs body opened (subst (λ t. IsProper p false t) et proper)))
 
   -- a `free` that is a fault has a Halt step in the memory of its Free step
   release_on : (o : Option Memory) (k k' : Value → State → Registers → Trace) → ValueTaken k k' → (s : State) (g : Memory) (good : Bool) (r : Registers) → InBodyHere s g → AssertedHere s g good []
@@ -246,14 +246,14 @@ module _ (p : Core) (h : Hooks) (j : ℕ) (IsTheirs : ℕ → Type 0) (ss : List
       let t = eval strict p.layouts source_call here e k s r in
       let T' = code_before h.points here.function place.Call (call_substitution 3) ++ T in
       held_case p h j IsTheirs ss ready here outer source_call woven_call bound first (operand_value d r) (λ v. al.release strict here v k) s r t (operand_strict here p.layouts source_call d od (λ v. al.release strict here v k) s r) proper (SimulatedHere g good vs t (run_woven T' rest' (woven_state s g) r)) (λ v ev et.
-        let a = act.Free v in
-        let t' = al.release_to strict here (freed s.memory v) k s r in
-        let proper' : IsProper p false (Then (Made (step_here a s)) t') = subst (λ t. IsProper p false t) et proper in
-        let substitutes = call_substitutes a 3 refl refl s r in
-        let m_in = step_inside p (step_here a s) proper'.0 in
-        let b' = stepped p h j IsTheirs ss ready here outer a refl s r (call_substitution 3) m_in substitutes first g body in
-        subst (λ t. SimulatedHere g good vs t (run_woven T' rest' (woven_state s g) r)) (sym et)
-          (announce p h j IsTheirs ss ready here outer a refl s r (call_substitution 3) m_in substitutes woven_call bound first g good vs body opened t' T rest'
-            (λ G. al.release_to resting here (freed s.memory v) k' (record s { ghosts = G }) r)
-            (λ G. runs (record s { ghosts = G }) r ∙ operand_run here p.layouts woven_call d od v r ev (λ v. al.release resting here v k') (record s { ghosts = G }))
-            (release_on (freed s.memory v) k k' takes s (ghosts_here a s g) (all_safe j (verdicts_here a s g) && good) r b' (asserted_after p h j IsTheirs ss ready here outer a refl s r (call_substitution 3) m_in substitutes first g good body) proper'.1)))
+      let a = act.Free v in
+      let t' = al.release_to strict here (freed s.memory v) k s r in
+      let proper' : IsProper p false (Then (Made (step_here a s)) t') = subst (λ t. IsProper p false t) et proper in
+      let substitutes = call_substitutes a 3 refl refl s r in
+      let m_in = step_inside p (step_here a s) proper'.0 in
+      let b' = stepped p h j IsTheirs ss ready here outer a refl s r (call_substitution 3) m_in substitutes first g body in
+      subst (λ t. SimulatedHere g good vs t (run_woven T' rest' (woven_state s g) r)) (sym et)
+      (announce p h j IsTheirs ss ready here outer a refl s r (call_substitution 3) m_in substitutes woven_call bound first g good vs body opened t' T rest'
+      (λ G. al.release_to resting here (freed s.memory v) k' (record s { ghosts = G }) r)
+      (λ G. runs (record s { ghosts = G }) r ∙ operand_run here p.layouts woven_call d od v r ev (λ v. al.release resting here v k') (record s { ghosts = G }))
+      (release_on (freed s.memory v) k k' takes s (ghosts_here a s g) (all_safe j (verdicts_here a s g) && good) r b' (asserted_after p h j IsTheirs ss ready here outer a refl s r (call_substitution 3) m_in substitutes first g good body) proper'.1)))

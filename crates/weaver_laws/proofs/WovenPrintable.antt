@@ -56,8 +56,8 @@ module _ where
   both_small [] x y = refl
   both_small (s ∷ ss) x y =
       both (is_small_statement s) (list_all is_small_statement ss)
-        (both (nat_le (nesting s) 700) (is_small_within s) (le-leb (nesting s) 700 (let l : nesting s ≤ suc (suc 499) = x.0 in omega arith)) (and_left (is_small_within s) (all_small ss) y))
-        (both_small ss x.1 (and_right (is_small_within s) (all_small ss) y))
+      (both (nat_le (nesting s) 700) (is_small_within s) (le-leb (nesting s) 700 (let l : nesting s ≤ suc (suc 499) = x.0 in omega arith)) (and_left (is_small_within s) (all_small ss) y))
+      (both_small ss x.1 (and_right (is_small_within s) (all_small ss) y))
 
 module _ (IsTheirs : ℕ → Type 0) (q : Core) (h : Hooks) (fits : FitsFor IsTheirs (2 ^ 30) q h) where
   -- ---- bodies
@@ -82,17 +82,17 @@ module _ (IsTheirs : ℕ → Type 0) (q : Core) (h : Hooks) (fits : FitsFor IsTh
           let e = cond c [] (changed_code h.points n) in
           let before = code_before h.points n place.Enter (enter_substitution f) in
           both_small (before ++ (st.Empty ∷ woven_all h.points n ss e))
-            (all_append (λ s. nesting s ≤ suc (suc 499)) before (st.Empty ∷ woven_all h.points n ss e) (before_nests h.points n place.Enter (enter_substitution f) (suc (suc 499)) one)
-              (one, all_nest h.points n ss k (have_blocks ss x) 499 (nest_within ss x) e (end_nests c)))
-            (small_append before (st.Empty ∷ woven_all h.points n ss e) (before_small IsTheirs q h n fits.points place.Enter (enter_substitution f) (enters_small f))
-              (all_woven_small IsTheirs q h n fits.points ss (are_small ss x) e (end_small c)))
+          (all_append (λ s. nesting s ≤ suc (suc 499)) before (st.Empty ∷ woven_all h.points n ss e) (before_nests h.points n place.Enter (enter_substitution f) (suc (suc 499)) one)
+          (one, all_nest h.points n ss k (have_blocks ss x) 499 (nest_within ss x) e (end_nests c)))
+          (small_append before (st.Empty ∷ woven_all h.points n ss e) (before_small IsTheirs q h n fits.points place.Enter (enter_substitution f) (enters_small f))
+          (all_woven_small IsTheirs q h n fits.points ss (are_small ss x) e (end_small c)))
 
   bodies_small : (n : ℕ) (fs : List Function) → are_normal_functions q n fs ≡ true → list_all (λ f. body_leaves_room f.body) fs ≡ true → list_all (λ f. is_small_body f.body) (woven_functions q h n fs) ≡ true
   bodies_small n [] m x = refl
   bodies_small n (f ∷ fs) m x =
       both (is_small_body (woven_body q h n f f.body)) (list_all (λ f. is_small_body f.body) (woven_functions q h (suc n) fs))
-        (body_small n f f.body (and_left (is_normal_body q n f f.body) (are_normal_functions q (suc n) fs) m) (and_left (body_leaves_room f.body) (list_all (λ f. body_leaves_room f.body) fs) x))
-        (bodies_small (suc n) fs (and_right (is_normal_body q n f f.body) (are_normal_functions q (suc n) fs) m) (and_right (body_leaves_room f.body) (list_all (λ f. body_leaves_room f.body) fs) x))
+      (body_small n f f.body (and_left (is_normal_body q n f f.body) (are_normal_functions q (suc n) fs) m) (and_left (body_leaves_room f.body) (list_all (λ f. body_leaves_room f.body) fs) x))
+      (bodies_small (suc n) fs (and_right (is_normal_body q n f f.body) (are_normal_functions q (suc n) fs) m) (and_right (body_leaves_room f.body) (list_all (λ f. body_leaves_room f.body) fs) x))
 
   -- ---- types
 
@@ -104,8 +104,8 @@ module _ (IsTheirs : ℕ → Type 0) (q : Core) (h : Hooks) (fits : FitsFor IsTh
   function_small n f x =
       let y = and_right (nat_le (type_depth f.result) 100) (have_small_types f.locals && have_small_types f.registers) x in
       both (nat_le (type_depth f.result) 100) (have_small_types f.locals && (have_small_types f.registers && have_small_types (saves_of h.points n))) (and_left (nat_le (type_depth f.result) 100) (have_small_types f.locals && have_small_types f.registers) x)
-        (both (have_small_types f.locals) (have_small_types f.registers && have_small_types (saves_of h.points n)) (and_left (have_small_types f.locals) (have_small_types f.registers) y)
-          (both (have_small_types f.registers) (have_small_types (saves_of h.points n)) (and_right (have_small_types f.locals) (have_small_types f.registers) y) (ghosts_small (saves_of h.points n) (saves_fit q h IsTheirs h.points n fits.points))))
+      (both (have_small_types f.locals) (have_small_types f.registers && have_small_types (saves_of h.points n)) (and_left (have_small_types f.locals) (have_small_types f.registers) y)
+      (both (have_small_types f.registers) (have_small_types (saves_of h.points n)) (and_right (have_small_types f.locals) (have_small_types f.registers) y) (ghosts_small (saves_of h.points n) (saves_fit q h IsTheirs h.points n fits.points))))
 
   functions_small : (n : ℕ) (fs : List Function) → list_all has_small_types fs ≡ true → list_all declares_small_types (woven_functions q h n fs) ≡ true
   functions_small n [] x = refl

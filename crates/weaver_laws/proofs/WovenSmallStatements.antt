@@ -94,11 +94,11 @@ module _ (IsTheirs : ℕ → Type 0) (q : Core) (h : Hooks) (n : ℕ) where
       woven_small w (st.If' e c (more_of-Stmt s end_of-Stmt) d (more_of-Stmt u end_of-Stmt)) x rest y =
           let k = and_right (is_small e) (is_small_within s && is_small_within u) x in
           both _ (all_small rest)
-            (both (is_small e) _ (and_left (is_small e) (is_small_within s && is_small_within u) x)
-              (both _ _ (block_small (woven_statement h.points n true s []) (woven_small true s (and_left (is_small_within s) (is_small_within u) k) [] refl)) (block_small (woven_statement h.points n true u []) (woven_small true u (and_right (is_small_within s) (is_small_within u) k) [] refl)))) y
+          (both (is_small e) _ (and_left (is_small e) (is_small_within s && is_small_within u) x)
+          (both _ _ (block_small (woven_statement h.points n true s []) (woven_small true s (and_left (is_small_within s) (is_small_within u) k) [] refl)) (block_small (woven_statement h.points n true u []) (woven_small true u (and_right (is_small_within s) (is_small_within u) k) [] refl)))) y
       woven_small w (st.While' e c (more_of-Stmt s end_of-Stmt)) x rest y =
           small_append (changed_code h.points n) (st.While' e c (more_of-Stmt (st.Block (woven_statement h.points n true s (changed_code h.points n))) end_of-Stmt) ∷ rest) changed_small
-            (both _ (all_small rest) (both (is_small e) _ (and_left (is_small e) (is_small_within s) x) (block_small (woven_statement h.points n true s (changed_code h.points n)) (woven_small true s (and_right (is_small e) (is_small_within s) x) (changed_code h.points n) changed_small))) y)
+          (both _ (all_small rest) (both (is_small e) _ (and_left (is_small e) (is_small_within s) x) (block_small (woven_statement h.points n true s (changed_code h.points n)) (woven_small true s (and_right (is_small e) (is_small_within s) x) (changed_code h.points n) changed_small))) y)
       woven_small w st.Break x rest y = y
       woven_small w st.Continue x rest y = small_append (changed_code h.points n) (st.Continue ∷ rest) changed_small y
       woven_small w (st.Return e) x rest y = small_append (code_before h.points n place.Return (return_substitution e)) (st.Return e ∷ rest) (before_small place.Return (return_substitution e) (returns_small e)) (both (is_small_or_nothing e) (all_small rest) x y)
