@@ -41,7 +41,12 @@ fn member_from<'a>(
             if is_at(at, offset) {
                 Some(&first.ctype)
             } else {
-                member_from(layouts, rest, plus(at, cells(layouts, &first.ctype)), offset)
+                member_from(
+                    layouts,
+                    rest,
+                    plus(at, cells(layouts, &first.ctype)),
+                    offset,
+                )
             }
         }
     }
