@@ -41,6 +41,8 @@ pub mod IntervalEnds
 pub mod ValuesInside
 pub mod FitsBounded
 pub mod TypedSizes
+pub mod StructCells
+pub mod LaterLayouts
 pub mod TypedRuns
 pub mod TracedSights
 pub mod ScopeExamples

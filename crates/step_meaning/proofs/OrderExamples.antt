@@ -55,17 +55,17 @@ with_f globals initial f body = program globals initial (function int [] f ∷ f
 
 -- int a[2]; int x; int f(void) { x = 1; return 0; } int main(void) { a[f()] = x; return a[0]; }
 assigned_place_first : end (run (with_f (declared (array_of int 2) ∷ declared int ∷ []) ((cell 0 ∷ cell 0 ∷ []) ∷ zero_cell ∷ [])
-        (s.Eval (assign (global 1) int (lit 1)) ∷ return (lit 0) ∷ []) (s.Eval (assign (index (global 0) (invoke 4)) int (load (global 1))) ∷ return (load (index (global 0) (lit 0))) ∷ [])) [] 9) ≡ Exit (pos 1)
+    (s.Eval (assign (global 1) int (lit 1)) ∷ return (lit 0) ∷ []) (s.Eval (assign (index (global 0) (invoke 4)) int (load (global 1))) ∷ return (load (index (global 0) (lit 0))) ∷ [])) [] 9) ≡ Exit (pos 1)
 assigned_place_first = refl
 
 -- int x; int f(void) { x = 5; return 1; } int main(void) { x = 1; x += f(); return x; }
 update_reads_first : end (run (with_f (declared int ∷ []) (zero_cell ∷ [])
-        (s.Eval (assign (global 0) int (lit 5)) ∷ return (lit 1) ∷ []) (s.Eval (assign (global 0) int (lit 1)) ∷ s.Eval (add (global 0) (invoke 4)) ∷ return (load (global 0)) ∷ [])) [] 9) ≡ Exit (pos 2)
+    (s.Eval (assign (global 0) int (lit 5)) ∷ return (lit 1) ∷ []) (s.Eval (assign (global 0) int (lit 1)) ∷ s.Eval (add (global 0) (invoke 4)) ∷ return (load (global 0)) ∷ [])) [] 9) ≡ Exit (pos 2)
 update_reads_first = refl
 
 -- int x; int m[2][2] = {{1, 2}, {3, 4}}; int main(void) { return m[x++][x]; }
 array_before_index : end (run (main_of (declared int ∷ declared (array_of (array_of int 2) 2) ∷ []) (zero_cell ∷ (cell 1 ∷ cell 2 ∷ cell 3 ∷ cell 4 ∷ []) ∷ [])
-        (return (load (index (p.Index' tt (more_of-Place_ (global 1) end_of-Place_) tt (more_of-Expr counted end_of-Expr) 2) (load (global 0)))) ∷ [])) [] 9) ≡ Exit (pos 2)
+    (return (load (index (p.Index' tt (more_of-Place_ (global 1) end_of-Place_) tt (more_of-Expr counted end_of-Expr) 2) (load (global 0)))) ∷ [])) [] 9) ≡ Exit (pos 2)
 array_before_index = refl
 
 -- int x = 1; int main(void) { return x++ * 10 + x; }
@@ -74,7 +74,7 @@ sum_left_first = refl
 
 -- int x; int main(void) { 0 && (x = 1); 1 || (x = 1); return x; }
 right_skipped : end (run (main_of (declared int ∷ []) (zero_cell ∷ [])
-        (s.Eval (both (lit 0) (assign (global 0) int (lit 1))) ∷ s.Eval (either (lit 1) (assign (global 0) int (lit 1))) ∷ return (load (global 0)) ∷ [])) [] 9) ≡ Exit (pos 0)
+    (s.Eval (both (lit 0) (assign (global 0) int (lit 1))) ∷ s.Eval (either (lit 1) (assign (global 0) int (lit 1))) ∷ return (load (global 0)) ∷ [])) [] 9) ≡ Exit (pos 0)
 right_skipped = refl
 
 -- ---- which operand is taken
@@ -95,7 +95,7 @@ postfix_before = refl
 
 -- int a[3] = {1, 2, 3}; int main(void) { return *(&a[2] - 1); }
 pointer_minus : end (run (main_of (declared (array_of int 3) ∷ []) ((cell 1 ∷ cell 2 ∷ cell 3 ∷ []) ∷ [])
-        (return (load (deref (e.Move' tt (more_of-Expr (e.Address (index (global 0) (lit 2)) int) end_of-Expr) tt (more_of-Expr (lit 1) end_of-Expr) 1 Minus))) ∷ [])) [] 9) ≡ Exit (pos 2)
+    (return (load (deref (e.Move' tt (more_of-Expr (e.Address (index (global 0) (lit 2)) int) end_of-Expr) tt (more_of-Expr (lit 1) end_of-Expr) 1 Minus))) ∷ [])) [] 9) ≡ Exit (pos 2)
 pointer_minus = refl
 
 abbrev third : Value
@@ -103,19 +103,19 @@ third = value.Pointer (record { kind = names.Global; activation = 0; index = 0 }
 
 -- int a[3] = {1, 2, 3}; int *p = &a[2]; int main(void) { p -= 1; return *p; }
 pointer_update_minus : end (run (main_of (declared (array_of int 3) ∷ declared (pointer_to int) ∷ []) ((cell 1 ∷ cell 2 ∷ cell 3 ∷ []) ∷ (third ∷ []) ∷ [])
-        (s.Eval (update (global 1) (pointer_to int) (Backward 1) (lit 1) After) ∷ return (load (deref (e.Load (global 1) (pointer_to int)))) ∷ [])) [] 9) ≡ Exit (pos 2)
+    (s.Eval (update (global 1) (pointer_to int) (Backward 1) (lit 1) After) ∷ return (load (deref (e.Load (global 1) (pointer_to int)))) ∷ [])) [] 9) ≡ Exit (pos 2)
 pointer_update_minus = refl
 
 -- ---- conversions of an update
 
 -- char c = 127; int main(void) { c += 1; return c; }
 result_converted : end (run (main_of (declared char ∷ []) ((cell 127 ∷ []) ∷ [])
-        (s.Eval (update (global 0) char (Integer op.Add kind.Int) (lit 1) After) ∷ return (convert kind.Int (e.Load (global 0) char)) ∷ [])) [] 9) ≡ Exit (negsuc 127)
+    (s.Eval (update (global 0) char (Integer op.Add kind.Int) (lit 1) After) ∷ return (convert kind.Int (e.Load (global 0) char)) ∷ [])) [] 9) ≡ Exit (negsuc 127)
 result_converted = refl
 
 -- int i = -1; int main(void) { i /= 2U; return i; }
 old_value_converted : end (run (main_of (declared int ∷ []) ((value.Int (negsuc 0) ∷ []) ∷ [])
-        (s.Eval (update (global 0) int (Integer op.Div kind.UInt) (e.Literal kind.UInt (pos 2)) After) ∷ return (load (global 0)) ∷ [])) [] 9) ≡ Exit (pos 2147483647)
+    (s.Eval (update (global 0) int (Integer op.Div kind.UInt) (e.Literal kind.UInt (pos 2)) After) ∷ return (load (global 0)) ∷ [])) [] 9) ≡ Exit (pos 2147483647)
 old_value_converted = refl
 
 -- int i = 2147483646; int main(void) { i += 1; return i; }
