@@ -1,5 +1,5 @@
 -- What weaving keeps of a core: all but its code and its ghost variables.
-use Rattle.std.specs.Prelude.{◌≡◌, List, [], map, Option, None, is_some}
+use Rattle.std.specs.Prelude.{◌≡◌, List, [], map, None}
 use Rattle.step_meaning.specs.declared.program.Core.{Core}
 use Rattle.step_meaning.specs.declared.program.Function.{Function}
 use Rattle.step_meaning.specs.declared.program.Hooks.{Hooks}
