@@ -10,7 +10,10 @@ use Rattle.step_meaning.specs.declared.predicate.Term.TheVariants as t
 use Rattle.step_meaning.specs.declared.predicate.TermPlace.TheVariants as p
 use Rattle.step_meaning.specs.declared.predicate.Predicate.{Predicate}
 use Rattle.step_meaning.specs.declared.predicate.Predicate.TheVariants as is
-use Rattle.step_meaning.specs.declared.stmt.Stmt.{Stmt}
+use denote.Hole.Carrier.{hidden}
+use Rattle.step_meaning.specs.declared.expr.CompareOp.TheVariants as comparing
+use Rattle.step_meaning.specs.declared.stmt.Stmt.TheBlock.{shape-the_row-Stmt-0, hidden-the_row-Stmt-0}
+use Rattle.step_meaning.specs.declared.stmt.Stmt.{Stmt, end_of-Stmt, more_of-Stmt}
 use Rattle.step_meaning.specs.declared.stmt.Stmt.TheVariants as s
 use Rattle.step_meaning.specs.declared.program.Declared.{Declared}
 use Rattle.step_meaning.specs.declared.program.Function.{Function}
@@ -123,6 +126,48 @@ calls_known = refl
 
 free_is_called : map (λ v. v.truth) (verdicts (items (run woven_allocating [] 5))) ≡ (true ∷ false ∷ [])
 free_is_called = refl
+
+-- ---- int x; int main(void) { register int r; while (1) { r = x; if (r) { break; } else { } x = 1; } r = 0; return r; }, where x is at most 1 at every step
+
+abbrev test : Stmt
+test = s.If' (e.Load register int) tt (more_of-Stmt (s.Block (s.Break ∷ [])) end_of-Stmt) tt (more_of-Stmt (s.Block []) end_of-Stmt)
+
+abbrev read_x : Stmt
+read_x = s.Eval (assign register int (e.Load (global 0) int))
+
+abbrev write_x : Stmt
+write_x = s.Eval (assign (global 0) int (lit 1))
+
+abbrev looping : Core
+looping = record writing {
+  functions = getchar ∷ putchar ∷ malloc ∷ free ∷ record main {
+    body = Some (
+        s.While' (lit 1) tt (more_of-Stmt (s.Block (read_x ∷ test ∷ write_x ∷ [])) end_of-Stmt)
+        ∷ s.Eval (assign register int (lit 0))
+        ∷ return (e.Load register int)
+        ∷ []);
+  } ∷ [];
+}
+
+abbrev at_most_one : Stmt
+at_most_one = safe (is.Relation comparing.LessEqual (t.Load (p.Own (variable names.Global 0)) int) (t.Int (pos 1)))
+
+abbrev woven_looping : Core
+woven_looping = woven_core looping (joined (hooks [] (point 4 place.Changed [] (at_most_one ∷ []) ∷ []) ∷ []))
+
+-- it stands at the start of the body and before the loop, before each access and at the end of the loop's body, before the assignment that may be a fault, and before the `return`
+invariant_stands : option_and_then (λ f. f.body) (slice_get woven_looping.functions 4)
+    ≡ Some (at_most_one ∷ s.Empty
+    ∷ at_most_one ∷ s.While' (lit 1) tt (more_of-Stmt (s.Block (at_most_one ∷ read_x ∷ test ∷ at_most_one ∷ write_x ∷ at_most_one ∷ [])) end_of-Stmt)
+    ∷ at_most_one ∷ s.Eval (assign register int (lit 0))
+    ∷ at_most_one ∷ return (e.Load register int)
+    ∷ [])
+unfolding shape-the_row-Stmt-0 hidden-the_row-Stmt-0 hidden
+invariant_stands = refl
+
+looping_ends : end (run woven_looping [] 5) ≡ Exit (pos 0)
+unfolding shape-the_row-Stmt-0 hidden-the_row-Stmt-0 hidden
+looping_ends = refl
 
 -- ---- the laws hold of it
 
