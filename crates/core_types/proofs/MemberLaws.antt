@@ -1,6 +1,6 @@
 -- Members of structs: each has a cell, and its offset tells its type.
-use Rattle.std.proofs.Common.{◌≡◌, ◌==◌, ℕ, zero, suc, ◌+◌, ◌*◌, ◌≤◌, ◌<◌, Bool, true, false, cond, ◌&&◌, List, [], ◌∷◌, ◌++◌, length, take, Option, Some, None, refl, sym, ap, subst, ◌∙◌, arith, length-append, ne_eqb}
-use Rattle.std.specs.Prelude.{slice_get, sum_by, flat_map, nat_le}
+use Rattle.std.proofs.Common.{◌≡◌, ◌==◌, ℕ, zero, suc, ◌+◌, ◌*◌, ◌≤◌, ◌<◌, true, cond, List, [], ◌∷◌, ◌++◌, length, take, Option, Some, None, refl, sym, ap, subst, ◌∙◌, arith, length-append, ne_eqb}
+use Rattle.std.specs.Prelude.{slice_get, sum_by, flat_map}
 use Rattle.std.specs.List.{list_all}
 use Rattle.std.proofs.lemmas.Bool.{leb-true, ltb-true}
 use Rattle.std.proofs.lemmas.List.Sums.{sum_by-cons}
@@ -8,25 +8,18 @@ use Rattle.step_meaning.specs.declared.value.CType.{CType, end_of-CType, more_of
 use Rattle.step_meaning.specs.declared.value.CType.TheVariants as type
 use Rattle.step_meaning.specs.declared.program.Layout.{Layout}
 use Rattle.step_meaning.specs.declared.program.Declared.{Declared}
-use Rattle.step_meaning.specs.Types.{same_type, times, cell_types, struct_cells, or_empty, object_cells}
-use Rattle.step_meaning.specs.TypeRules.{cells, is_object_type, keeps_rules, is_layout_after, are_layouts_after, are_layouts, member_from, member_type}
+use Rattle.step_meaning.specs.Types.{same_type, cell_types, struct_cells, or_empty, object_cells}
+use Rattle.step_meaning.specs.TypeRules.{cells, is_object_type, keeps_rules, are_layouts_after, are_layouts, member_from}
 use Rattle.core_types.specs.Laws.{SameTypes, EarlierCells, MemberTypes}
-use Rattle.step_meaning.proofs.Ranges.{false_is_not_true, and_true, left_of_and, right_of_and}
-use Rattle.step_meaning.proofs.TypedMemory.{Each, WhereSome, get_fits, number_same}
-use Rattle.step_meaning.proofs.SameTypes.{same_type_equal}
+use Rattle.step_meaning.proofs.Ranges.{false_is_not_true, left_of_and, right_of_and}
+use Rattle.step_meaning.proofs.TypedMemory.{Each, WhereSome, get_fits}
+use Rattle.step_meaning.proofs.SameTypes.{number_same, same_type_equal, same_itself}
 use Rattle.step_meaning.proofs.StructCells.{member_cells, counted}
 use Rattle.step_meaning.proofs.TypedSizes.{last_struct}
 use Rattle.step_meaning.proofs.LaterLayouts.{same_cells, still_keeps, member_types_keep}
 use Rattle.core_types.proofs.SizeLaws.{times_length}
 
 -- ---- types that are the same
-
-same_itself : (t : CType) → same_type t t ≡ true
-same_itself type.Void = refl
-same_itself (type.Int k) = number_same _
-same_itself (type.Pointer' b (more_of-CType t end_of-CType)) = same_itself t
-same_itself (type.Array' b (more_of-CType t end_of-CType) n) = and_true (number_same n) (same_itself t)
-same_itself (type.Struct n) = number_same n
 
 pub same_types_equal : SameTypes
 same_types_equal t u = (same_type_equal t u, λ e. subst (λ v. same_type t v ≡ true) e (same_itself t))

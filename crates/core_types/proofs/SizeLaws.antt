@@ -1,13 +1,12 @@
 -- Sizes by the parts of a type, and why the taking apart ends.
-use Rattle.std.proofs.Common.{◌≡◌, ℕ, zero, suc, ◌+◌, ◌*◌, ◌<◌, ◌≤◌, List, [], ◌∷◌, ◌++◌, length, take, drop, get_or, refl, sym, ap, subst, ◌∙◌, arith, length-append}
+use Rattle.std.proofs.Common.{◌≡◌, ℕ, zero, suc, ◌+◌, ◌*◌, ◌<◌, ◌≤◌, List, [], ◌∷◌, ◌++◌, length, take, drop, get_or, refl, sym, ap, ◌∙◌, arith, length-append}
 use Rattle.std.specs.Prelude.{flat_map}
 use Rattle.step_meaning.specs.declared.value.CType.{CType, end_of-CType, more_of-CType}
 use Rattle.step_meaning.specs.declared.value.CType.TheVariants.{Void, Int, Pointer', Array, Array', Struct}
 use Rattle.step_meaning.specs.declared.value.CType.TheBlock.{shape-the_row-CType-0, hidden-the_row-CType-0}
 use denote.Hole.Carrier.{hidden}
 use Rattle.step_meaning.specs.declared.program.Layout.{Layout}
-use Rattle.step_meaning.specs.declared.program.Declared.{Declared}
-use Rattle.step_meaning.specs.Types.{times, cell_types, struct_cells, object_cells}
+use Rattle.step_meaning.specs.Types.{times, object_cells}
 use Rattle.step_meaning.specs.TermSizes.{type_depth}
 use Rattle.core_types.specs.Counts.{depths, bulk}
 use Rattle.step_meaning.proofs.StructCells.{struct_at, struct_past}

@@ -1,5 +1,5 @@
 -- Laws on the types of a core (C11 6.2.7, 6.7.2.1).
-use Rattle.std.specs.Prelude.{◌≡◌, ◌↔◌, ℕ, ◌≤◌, Bool, true, List, ◌++◌, length, take, sum_by, slice_get, Some, IsTrue}
+use Rattle.std.specs.Prelude.{◌≡◌, ◌↔◌, ℕ, ◌≤◌, List, ◌++◌, take, sum_by, slice_get, Some, IsTrue}
 use Rattle.std.specs.List.{list_all}
 use Rattle.step_meaning.specs.declared.value.CType.{CType}
 use Rattle.step_meaning.specs.declared.value.CType.TheVariants.{Struct}

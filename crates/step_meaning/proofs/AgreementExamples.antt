@@ -1,8 +1,7 @@
 -- Programs that agree, erase and simulate, and others that don't.
-use Rattle.std.proofs.Common.{◌≡◌, ◌==◌, ◌<◌, ℕ, zero, suc, true, false, refl, sym, ap, List, [], ◌∷◌, map, length, Some, None, lit≤, lit<, arith}
-use Rattle.std.specs.Prelude.{◌↔◌, codes}
+use Rattle.std.proofs.Common.{◌≡◌, ◌==◌, ◌<◌, ℕ, zero, suc, refl, sym, ap, List, [], ◌∷◌, map, length, Some, lit≤, lit<, arith}
+use Rattle.std.specs.Prelude.{codes}
 use Rattle.step_meaning.specs.declared.value.NameKind.TheVariants as names
-use Rattle.step_meaning.specs.declared.stmt.Stmt.{Stmt}
 use Rattle.step_meaning.specs.declared.stmt.Stmt.TheVariants as s
 use Rattle.step_meaning.specs.declared.program.Hooks.{Hooks}
 use Rattle.step_meaning.specs.declared.program.Function.{Function}

@@ -2,9 +2,7 @@
 use Rattle.std.proofs.Common.{◌≡◌, ℕ, zero, suc, true, false, refl, List, [], ◌∷◌}
 use Rattle.std.specs.Prelude.{pos}
 use Rattle.step_meaning.specs.declared.value.CType.{CType}
-use Rattle.step_meaning.specs.declared.value.NameKind.TheVariants as names
 use Rattle.step_meaning.specs.declared.expr.CompareOp.TheVariants as comparing
-use Rattle.step_meaning.specs.declared.expr.Variable.{Variable}
 use Rattle.step_meaning.specs.declared.predicate.Term.TheVariants as t
 use Rattle.step_meaning.specs.declared.predicate.TermPlace.TheVariants as tp
 use Rattle.step_meaning.specs.declared.predicate.Predicate.{Predicate}

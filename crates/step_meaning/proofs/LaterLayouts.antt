@@ -1,5 +1,5 @@
 -- More structs change no cells of a type that keeps the rules without them, and it keeps the rules with them.
-use Rattle.std.proofs.Common.{◌≡◌, ℕ, zero, suc, ◌+◌, ◌≤◌, ◌<◌, Bool, true, false, ◌&&◌, List, [], ◌∷◌, ◌++◌, length, Option, Some, None, refl, sym, ap, subst, ◌∙◌, arith, length-append, append_assoc}
+use Rattle.std.proofs.Common.{◌≡◌, ℕ, zero, suc, ◌+◌, ◌≤◌, ◌<◌, Bool, true, List, [], ◌∷◌, ◌++◌, length, Option, Some, None, refl, sym, ap, subst, ◌∙◌, arith, length-append, append_assoc}
 use Rattle.std.specs.Prelude.{slice_get, nat_lt, nat_le}
 use Rattle.std.specs.List.{list_all}
 use Rattle.std.proofs.lemmas.Bool.{ltb-true}
@@ -7,10 +7,10 @@ use Rattle.step_meaning.specs.declared.value.CType.{CType, end_of-CType, more_of
 use Rattle.step_meaning.specs.declared.value.CType.TheVariants.{Void, Int, Pointer', Array', Struct}
 use Rattle.step_meaning.specs.declared.program.Layout.{Layout}
 use Rattle.step_meaning.specs.declared.program.Declared.{Declared}
-use Rattle.step_meaning.specs.Types.{times, cell_types, struct_cells, or_empty, object_cells}
-use Rattle.step_meaning.specs.TypeRules.{cells, most_cells, is_object_type, keeps_rules, is_layout_after, are_layouts_after, are_layouts}
+use Rattle.step_meaning.specs.Types.{times, struct_cells, or_empty, object_cells}
+use Rattle.step_meaning.specs.TypeRules.{most_cells, is_object_type, keeps_rules, are_layouts_after, are_layouts}
 use Rattle.step_meaning.proofs.Ranges.{false_is_not_true, and_true, left_of_and, right_of_and}
-use Rattle.step_meaning.proofs.StructCells.{before_get, chained, counted, kept}
+use Rattle.step_meaning.proofs.StructCells.{chained, counted, kept}
 
 below : (m n : ℕ) → nat_lt m n ≡ true → m < n
 below m n e = ltb-true m n e

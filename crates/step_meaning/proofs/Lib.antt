@@ -14,6 +14,7 @@ pub mod ExpressionTypeExamples
 pub mod IllFormedExamples
 pub mod InitialValueExamples
 pub mod NormalExamples
+pub mod SourceExamples
 pub mod Ranges
 pub mod OperatorRanges
 pub mod Falling

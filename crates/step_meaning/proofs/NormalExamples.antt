@@ -196,7 +196,7 @@ main = record {
   body = Some (s.Empty ∷ takes (register 0) (load (global 0)) ∷ takes (register 0) (binary op.Add kind.Int r (lit 1)) ∷ takes (global 0) r ∷ return r ∷ []);
 }
 
-abbrev counting : Core
+abbrev pub counting : Core
 counting = record adding { layouts = []; globals = named (codes "x") int ∷ []; initial = zero_cell ∷ []; functions = getchar ∷ putchar ∷ malloc ∷ free ∷ main ∷ []; start = 4 }
 
 getchar_fits : IsWellFormedFunction counting getchar

@@ -1,5 +1,5 @@
 -- A size is made of the sizes of its parts.
-use Rattle.std.proofs.Common.{◌≡◌, ◌+◌, ◌*◌, ◌∷◌, length, take, get_or, refl, sym, ap, subst, ◌∙◌, rules, length-append}
+use Rattle.std.proofs.Common.{◌≡◌, ◌*◌, ◌∷◌, length, take, sym, ap, subst, ◌∙◌, rules, length-append}
 use Rattle.std.specs.Prelude.{flat_map}
 use Rattle.step_meaning.specs.Types.{object_cells}
 use Rattle.core_types.specs.Counts.{Counts}
