@@ -79,7 +79,7 @@ fn reads_a_woven_text(rt: HostRuntime) -> Result<(), Fail> {
 }
 
 /// Texts, and whether they are of the form of sources and of that of woven texts.
-const TEXTS: [(&[u8], bool, bool); 24] = [
+const TEXTS: [(&[u8], bool, bool); 26] = [
     (b"", false, false),
     (b"int main(void) { return 0; }", true, true),
     (b"int main(void) { return 1; }", false, false),
@@ -133,6 +133,12 @@ const TEXTS: [(&[u8], bool, bool); 24] = [
     (b"int main; int main(void) { return 0; }", false, false),
     (
         b"void putchar(void) { } int main(void) { return 0; }",
+        false,
+        false,
+    ),
+    (b"int malloc; int main(void) { return 0; }", false, false),
+    (
+        b"void free(void) { } int main(void) { return 0; }",
         false,
         false,
     ),

@@ -24,7 +24,7 @@ use Rattle.step_meaning.specs.declared.stmt.GhostStmt.TheVariants.{Set}
 use Rattle.step_meaning.specs.declared.program.Layout.{Layout}
 use Rattle.step_meaning.specs.Settings.{Setting}
 use Rattle.step_meaning.specs.TermSizes.{predicate_nodes, predicate_nodes_as_read, type_depth}
-use Rattle.step_meaning.specs.Intervals.{Interval, IsLimited, from_to, interval}
+use Rattle.step_meaning.specs.Intervals.{Interval, IsLimited, from_to, interval, TermLimited}
 use Rattle.step_meaning.specs.TermKinds.{Integer, PointerTo, OfAccess, term_kind, PredicateKinds}
 use Rattle.step_meaning.specs.Annotations.{Allowed, nothing_else, PredicateFits, GhostFits}
 use Rattle.step_meaning.proofs.Examples.{int, pointer_to, array_of, declared}
@@ -367,6 +367,29 @@ not_called f = false_is_not_true f.kinds
 
 no_event : Fits (is.Event event.Call 2) → ⊥
 no_event f = false_is_not_true f.kinds
+
+-- int *p; \valid(p + (18446744073709551615U * 9223372036854775808U + 9223372032559808512U)): each term keeps the limit, whose last offset is 2 ^ 127 - 1
+abbrev far_number : Term
+far_number =
+    t.Arith' op.Add tt
+    (more_of-Term (t.Arith' op.Mul tt (more_of-Term (t.Int (pos 18446744073709551615)) end_of-Term) tt (more_of-Term (t.Int (pos 9223372036854775808)) end_of-Term)) end_of-Term)
+    tt (more_of-Term (t.Int (pos 9223372032559808512)) end_of-Term)
+
+abbrev far : Term
+far = t.Move' tt (more_of-Term pointer end_of-Term) tt (more_of-Term far_number end_of-Term) 1
+
+far_interval : interval nothing_else far ≡ from_to (pos (2 ^ 127 - 2 ^ 32)) (pos (2 ^ 127 - 1))
+far_interval = refl
+
+far_limited : TermLimited nothing_else far
+far_limited = (limited _ tt tt tt tt, limited _ tt tt tt tt, (limited _ tt tt tt tt, tt), (limited _ tt tt tt tt, (limited _ tt tt tt tt, limited _ tt tt tt tt, limited _ tt tt tt tt), limited _ tt tt tt tt))
+
+far_valid : Fits (is.Valid (object far int))
+far_valid = record { kinds = (refl, tt); limited = (far_limited, tt) }
+
+-- and with the range (0 .. 0) the offset past its object doesn't
+far_range : Fits (is.Valid (objects far int (whole 0) (whole 0))) → ⊥
+far_range f = f.limited.1.2.3.1.1.le
 
 -- ---- intervals
 

@@ -57,7 +57,7 @@ pub record Counts (R : ℕ → Trace → Trace → Type 0) : Type 0 where
   pub makes : (n : ℕ) (s : Step) (t u : Trace) → R n t u → R (suc n) (Then (Made s) t) (Then (Made s) u)
   pub judges : (n : ℕ) (v : Verdict) (t u : Trace) → R n t u → R n (Then (Judged v) t) (Then (Judged v) u)
 
-exit_is_real : (v : Value) → IsReal (exit_of v)
+pub exit_is_real : (v : Value) → IsReal (exit_of v)
 exit_is_real (value.Int z) = tt
 exit_is_real value.Null = tt
 exit_is_real (value.Pointer n o) = tt
@@ -71,185 +71,185 @@ module _ (R : ℕ → Trace → Trace → Type 0) (counts : Counts R) where
   pub record SameCall (n : ℕ) (d d' : RestingCall) : Type 0 where
     pub by : (m : ℕ) → m ≤ n → (rest rest' : Value → State → Trace) → ((j : ℕ) → j ≤ m → (a : Value) (s : State) → R j (rest a s) (rest' a s)) → (s : State) → R m (d rest s) (d' rest' s)
 
-  no_steps : (m : ℕ) → m ≤ 0 → (t u : Trace) → R m t u
+  pub no_steps : (m : ℕ) → m ≤ 0 → (t u : Trace) → R m t u
   no_steps zero le t u = counts.none t u
   no_steps (suc m) le t u = absurd (omega arith)
 
-  same_zero : {A : Type 0} (d d' : Resting A) → Same 0 d d'
+  pub same_zero : {A : Type 0} (d d' : Resting A) → Same 0 d d'
   same_zero d d' = record { by = λ m le r r' h s q. no_steps m le (d r s q) (d' r' s q) }
 
-  call_zero : (d d' : RestingCall) → SameCall 0 d d'
+  pub call_zero : (d d' : RestingCall) → SameCall 0 d d'
   call_zero d d' = record { by = λ m le r r' h s. no_steps m le (d r s) (d' r' s) }
 
-  same_fewer : (n m : ℕ) {A : Type 0} {d d' : Resting A} → m ≤ n → Same n d d' → Same m d d'
+  pub same_fewer : (n m : ℕ) {A : Type 0} {d d' : Resting A} → m ≤ n → Same n d d' → Same m d d'
   same_fewer n m le a = record { by = λ j jl. a.by j (omega arith) }
 
-  made_next : (m : ℕ) (z : Step) (t u : Trace) → ((j : ℕ) → j ≤ m → R j t u) → R m (Then (Made z) t) (Then (Made z) u)
+  pub made_next : (m : ℕ) (z : Step) (t u : Trace) → ((j : ℕ) → j ≤ m → R j t u) → R m (Then (Made z) t) (Then (Made z) u)
   made_next zero z t u h = counts.none _ _
   made_next (suc m) z t u h = counts.makes m z t u (h m (omega arith))
 
-  halted : (m : ℕ) (z : Step) (e : End) → IsReal e → R m (Then (Made z) (Stop e)) (Then (Made z) (Stop e))
+  pub halted : (m : ℕ) (z : Step) (e : End) → IsReal e → R m (Then (Made z) (Stop e)) (Then (Made z) (Stop e))
   halted m z e real = made_next m z (Stop e) (Stop e) (λ j jl. counts.stops j e real)
 
   module _ (n : ℕ) where
-    same_bind : {A B : Type 0} {d d' : Resting A} {f f' : A → Resting B} → Same n d d' → ((a : A) → Same n (f a) (f' a)) → Same n (resting.bind d f) (resting.bind d' f')
+    pub same_bind : {A B : Type 0} {d d' : Resting A} {f f' : A → Resting B} → Same n d d' → ((a : A) → Same n (f a) (f' a)) → Same n (resting.bind d f) (resting.bind d' f')
     same_bind {f = f} {f' = f'} a b = record { by = λ m le r r' h s q. a.by m le (λ x. f x r) (λ x. f' x r') (λ j jl x. (b x).by j (omega arith) r r' (λ i il. h i (omega arith))) s q }
 
-    same_then : {A B : Type 0} {d d' : Resting A} {e e' : Resting B} → Same n d d' → Same n e e' → Same n (resting.bind d (λ a. e)) (resting.bind d' (λ a. e'))
+    pub same_then : {A B : Type 0} {d d' : Resting A} {e e' : Resting B} → Same n d d' → Same n e e' → Same n (resting.bind d (λ a. e)) (resting.bind d' (λ a. e'))
     same_then a b = same_bind a (λ x. b)
 
-    same_pure : {A : Type 0} (a : A) → Same n (resting.pure a) (resting.pure a)
+    pub same_pure : {A : Type 0} (a : A) → Same n (resting.pure a) (resting.pure a)
     same_pure a = record { by = λ m le r r' h s q. h m (omega arith) a s q }
 
-    same_stop : {A : Type 0} (e : End) → IsReal e → Same n (resting.stop {A = A} e) (resting.stop e)
+    pub same_stop : {A : Type 0} (e : End) → IsReal e → Same n (resting.stop {A = A} e) (resting.stop e)
     same_stop e real = record { by = λ m le r r' h s q. counts.stops m e real }
 
-    same_halt : {A : Type 0} (here : Here) (f : RunFault) → Same n (resting.halt {A = A} here f) (resting.halt here f)
+    pub same_halt : {A : Type 0} (here : Here) (f : RunFault) → Same n (resting.halt {A = A} here f) (resting.halt here f)
     same_halt here f = record { by = λ m le r r' h s q. halted m _ (Fault f) tt }
 
-    same_misuse : {A : Type 0} (here : Here) (f : RunFault) → Same n (resting.misuse {A = A} here f) (resting.misuse here f)
+    pub same_misuse : {A : Type 0} (here : Here) (f : RunFault) → Same n (resting.misuse {A = A} here f) (resting.misuse here f)
     same_misuse here f = record { by = λ m le r r' h s q. halted m _ (Fault f) tt }
 
-    same_get : Same n resting.get resting.get
+    pub same_get : Same n resting.get resting.get
     same_get = record { by = λ m le r r' h s q. h m (omega arith) s s q }
 
-    same_put_memory : (x : Memory) → Same n (resting.put_memory x) (resting.put_memory x)
+    pub same_put_memory : (x : Memory) → Same n (resting.put_memory x) (resting.put_memory x)
     same_put_memory x = record { by = λ m le r r' h s q. h m (omega arith) tt (record s { memory = x }) q }
 
-    same_put_ghosts : (x : Memory) → Same n (resting.put_ghosts x) (resting.put_ghosts x)
+    pub same_put_ghosts : (x : Memory) → Same n (resting.put_ghosts x) (resting.put_ghosts x)
     same_put_ghosts x = record { by = λ m le r r' h s q. h m (omega arith) tt (record s { ghosts = x }) q }
 
-    same_put_input : (x : List ℕ) → Same n (resting.put_input x) (resting.put_input x)
+    pub same_put_input : (x : List ℕ) → Same n (resting.put_input x) (resting.put_input x)
     same_put_input x = record { by = λ m le r r' h s q. h m (omega arith) tt (record s { input = x }) q }
 
-    same_put_made : (x : ℕ) → Same n (resting.put_made x) (resting.put_made x)
+    pub same_put_made : (x : ℕ) → Same n (resting.put_made x) (resting.put_made x)
     same_put_made x = record { by = λ m le r r' h s q. h m (omega arith) tt (record s { made = x }) q }
 
-    same_put_allocated : (x : ℕ) → Same n (resting.put_allocated x) (resting.put_allocated x)
+    pub same_put_allocated : (x : ℕ) → Same n (resting.put_allocated x) (resting.put_allocated x)
     same_put_allocated x = record { by = λ m le r r' h s q. h m (omega arith) tt (record s { allocated = x }) q }
 
-    same_registers : Same n resting.registers resting.registers
+    pub same_registers : Same n resting.registers resting.registers
     same_registers = record { by = λ m le r r' h s q. h m (omega arith) q s q }
 
-    same_put_registers : (x : Registers) → Same n (resting.put_registers x) (resting.put_registers x)
+    pub same_put_registers : (x : Registers) → Same n (resting.put_registers x) (resting.put_registers x)
     same_put_registers x = record { by = λ m le r r' h s q. h m (omega arith) tt s x }
 
-    same_judge : (k : ℕ) (v : VerdictKind) (b : Bool) → Same n (resting.judge k v b) (resting.judge k v b)
+    pub same_judge : (k : ℕ) (v : VerdictKind) (b : Bool) → Same n (resting.judge k v b) (resting.judge k v b)
     same_judge k v b = record { by = λ m le r r' h s q. counts.judges m _ _ _ (h m (omega arith) tt s q) }
 
-    same_cond : {A : Type 0} (b : Bool) {d d' e e' : Resting A} → Same n d d' → Same n e e' → Same n (cond b d e) (cond b d' e')
+    pub same_cond : {A : Type 0} (b : Bool) {d d' e e' : Resting A} → Same n d d' → Same n e e' → Same n (cond b d e) (cond b d' e')
     same_cond true x y = x
     same_cond false x y = y
 
-    same_emit : (here : Here) (x : Action) → Same n (resting.emit here x) (resting.emit here x)
+    pub same_emit : (here : Here) (x : Action) → Same n (resting.emit here x) (resting.emit here x)
     same_emit here x = record { by = λ m le r r' h s q. made_next m _ (r tt s q) (r' tt s q) (λ j jl. h j jl tt s q) }
 
-    same_alone : (own : Registers) {d d' : Resting Value} → Same n d d' → SameCall n (resting.alone own d) (resting.alone own d')
+    pub same_alone : (own : Registers) {d d' : Resting Value} → Same n d d' → SameCall n (resting.alone own d) (resting.alone own d')
     same_alone own a = record { by = λ m le r r' h s. a.by m le (λ v s q. r v s) (λ v s q. r' v s) (λ j jl v s q. h j jl v s) s own }
 
-    same_through : {d d' : RestingCall} → SameCall n d d' → Same n (resting.through d) (resting.through d')
+    pub same_through : {d d' : RestingCall} → SameCall n d d' → Same n (resting.through d) (resting.through d')
     same_through a = record { by = λ m le r r' h s q. a.by m le (λ v s. r v s q) (λ v s. r' v s q) (λ j jl v s. h j jl v s q) s }
 
   -- after a step one more is the same
-  emit_counts : (n : ℕ) (z : Step) (m : ℕ) (t u : Trace) → m ≤ suc n → ((j : ℕ) → j ≤ n → j ≤ m → R j t u) → R m (Then (Made z) t) (Then (Made z) u)
+  pub emit_counts : (n : ℕ) (z : Step) (m : ℕ) (t u : Trace) → m ≤ suc n → ((j : ℕ) → j ≤ n → j ≤ m → R j t u) → R m (Then (Made z) t) (Then (Made z) u)
   emit_counts n z zero t u le h = counts.none _ _
   emit_counts n z (suc m) t u le h = counts.makes m z t u (h m (omega arith) (omega arith))
 
-  same_emit_then : (n : ℕ) (here : Here) (x : Action) {A : Type 0} {d d' : Resting A} → Same n d d' → Same (suc n) (resting.bind (resting.emit here x) (λ u. d)) (resting.bind (resting.emit here x) (λ u. d'))
+  pub same_emit_then : (n : ℕ) (here : Here) (x : Action) {A : Type 0} {d d' : Resting A} → Same n d d' → Same (suc n) (resting.bind (resting.emit here x) (λ u. d)) (resting.bind (resting.emit here x) (λ u. d'))
   same_emit_then n here x {d = d} {d' = d'} a = record { by = λ m le r r' h s q. emit_counts n _ m (d r s q) (d' r' s q) le (λ j jn jm. a.by j jn r r' (λ i il. h i (omega arith)) s q) }
 
   module _ (n : ℕ) (here : Here) where
-    same_checked : {A : Type 0} (c : Result A RunFault) → Same n (acc.checked resting here c) (acc.checked resting here c)
+    pub same_checked : {A : Type 0} (c : Result A RunFault) → Same n (acc.checked resting here c) (acc.checked resting here c)
     same_checked (Ok a) = same_pure n a
     same_checked (Err f) = same_halt n here f
 
-    same_held_register : (c : Option Cell) → Same n (acc.held_register resting here c) (acc.held_register resting here c)
+    pub same_held_register : (c : Option Cell) → Same n (acc.held_register resting here c) (acc.held_register resting here c)
     same_held_register None = same_misuse n here fault.Invalid
     same_held_register (Some Nothing) = same_misuse n here fault.Uninit
     same_held_register (Some (Holds v)) = same_pure n v
 
-    same_held : (c : Option Cell) → Same n (acc.held resting here c) (acc.held resting here c)
+    pub same_held : (c : Option Cell) → Same n (acc.held resting here c) (acc.held resting here c)
     same_held None = same_halt n here fault.Invalid
     same_held (Some Nothing) = same_halt n here fault.Uninit
     same_held (Some (Holds v)) = same_pure n v
 
-    same_load : (t : CType) (p : Lvalue) → Same n (acc.load resting here t p) (acc.load resting here t p)
+    pub same_load : (t : CType) (p : Lvalue) → Same n (acc.load resting here t p) (acc.load resting here t p)
     same_load t (InRegister i) = same_bind n (same_registers n) (λ r. same_held_register (register_at r i t))
     same_load t (At p) = same_then n (same_emit n here (act.Read p)) (same_bind n (same_get n) (λ s. same_held (reached s.memory p t)))
 
-    same_write_at : (p v : Value) (c : Option Cell) → Same n (acc.write_at resting here p v c) (acc.write_at resting here p v c)
+    pub same_write_at : (p v : Value) (c : Option Cell) → Same n (acc.write_at resting here p v c) (acc.write_at resting here p v c)
     same_write_at p v None = same_halt n here fault.Invalid
     same_write_at p v (Some c) = same_bind n (same_get n) (λ s. same_then n (same_put_memory n (stored s.memory p (Holds v))) (same_pure n v))
 
-    same_write_register : (i : ℕ) (v : Value) (c : Option Cell) → Same n (acc.write_register resting here i v c) (acc.write_register resting here i v c)
+    pub same_write_register : (i : ℕ) (v : Value) (c : Option Cell) → Same n (acc.write_register resting here i v c) (acc.write_register resting here i v c)
     same_write_register i v None = same_misuse n here fault.Invalid
     same_write_register i v (Some c) = same_bind n (same_registers n) (λ r. same_then n (same_put_registers n (set_register r i v)) (same_pure n v))
 
-    same_store : (t : CType) (p : Lvalue) (v : Value) → Same n (acc.store resting here t p v) (acc.store resting here t p v)
+    pub same_store : (t : CType) (p : Lvalue) (v : Value) → Same n (acc.store resting here t p v) (acc.store resting here t p v)
     same_store t (InRegister i) v = same_bind n (same_registers n) (λ r. same_write_register i v (register_at r i t))
     same_store t (At p) v = same_then n (same_emit n here (act.Write p v)) (same_bind n (same_get n) (λ s. same_write_at p v (reached s.memory p t)))
 
-    same_move_by : (p : Value) (by : ℤ) → Same n (acc.move_by resting here p by) (acc.move_by resting here p by)
+    pub same_move_by : (p : Value) (by : ℤ) → Same n (acc.move_by resting here p by) (acc.move_by resting here p by)
     same_move_by p by = same_bind n (same_get n) (λ s. same_checked (moved p (room_at s.memory p) by))
 
-    same_address_of : (l : Lvalue) → Same n (acc.address_of resting l) (acc.address_of resting l)
+    pub same_address_of : (l : Lvalue) → Same n (acc.address_of resting l) (acc.address_of resting l)
     same_address_of (InRegister i) = same_stop n (Fault fault.Invalid) tt
     same_address_of (At p) = same_pure n p
 
-    same_object_after : (l : Lvalue) (by : ℤ) → Same n (acc.object_after resting here l by) (acc.object_after resting here l by)
+    pub same_object_after : (l : Lvalue) (by : ℤ) → Same n (acc.object_after resting here l by) (acc.object_after resting here l by)
     same_object_after l by = same_bind n (same_address_of l) (λ p. same_bind n (same_move_by p by) (λ q. same_pure n (At q)))
 
-    same_int : (c : Result ℤ RunFault) → Same n (acc.as_int resting (acc.checked resting here c)) (acc.as_int resting (acc.checked resting here c))
+    pub same_int : (c : Result ℤ RunFault) → Same n (acc.as_int resting (acc.checked resting here c)) (acc.as_int resting (acc.checked resting here c))
     same_int c = same_bind n (same_checked c) (λ z. same_pure n (value.Int z))
 
-    same_truth : (c : Result Bool RunFault) → Same n (acc.as_truth resting (acc.checked resting here c)) (acc.as_truth resting (acc.checked resting here c))
+    pub same_truth : (c : Result Bool RunFault) → Same n (acc.as_truth resting (acc.checked resting here c)) (acc.as_truth resting (acc.checked resting here c))
     same_truth c = same_bind n (same_checked c) (λ b. same_pure n (of_truth b))
 
-    same_move_elements : (side : Side) (size : ℕ) (a b : Value) → Same n (acc.move_elements resting here side size a b) (acc.move_elements resting here side size a b)
+    pub same_move_elements : (side : Side) (size : ℕ) (a b : Value) → Same n (acc.move_elements resting here side size a b) (acc.move_elements resting here side size a b)
     same_move_elements PointerFirst size a b = same_move_by a _
     same_move_elements PointerLast size a b = same_move_by b _
     same_move_elements Minus size a b = same_move_by a _
 
-    same_updated : (t : CType) (o : UpdateOp) (old v : Value) → Same n (acc.updated resting here t o old v) (acc.updated resting here t o old v)
+    pub same_updated : (t : CType) (o : UpdateOp) (old v : Value) → Same n (acc.updated resting here t o old v) (acc.updated resting here t o old v)
     same_updated t (Integer o k) old v = same_bind n {A = ℤ} (same_bind n {A = ℤ} (same_checked _) (λ z. same_pure n (converted_to k t z))) (λ z. same_pure n (value.Int z))
     same_updated t (Forward size) old v = same_move_by old _
     same_updated t (Backward size) old v = same_move_by old _
 
-    same_next_byte : (bs : List ℕ) → Same n (acc.next_byte resting here bs) (acc.next_byte resting here bs)
+    pub same_next_byte : (bs : List ℕ) → Same n (acc.next_byte resting here bs) (acc.next_byte resting here bs)
     same_next_byte [] = same_pure n _
     same_next_byte (b ∷ bs) = same_then n (same_put_input n bs) (same_pure n _)
 
-    same_get_char : Same n (acc.get_char resting here) (acc.get_char resting here)
+    pub same_get_char : Same n (acc.get_char resting here) (acc.get_char resting here)
     same_get_char = same_then n (same_emit n here act.Input) (same_bind n (same_get n) (λ s. same_next_byte s.input))
 
-    same_put_char : (v : Value) → Same n (acc.put_char resting here v) (acc.put_char resting here v)
+    pub same_put_char : (v : Value) → Same n (acc.put_char resting here v) (acc.put_char resting here v)
     same_put_char v = same_then n (same_emit n here _) (same_pure n _)
 
-    same_allocate_block : (count : ℕ) (b : Option Block) → Same n (al.allocate_block resting here count b) (al.allocate_block resting here count b)
+    pub same_allocate_block : (count : ℕ) (b : Option Block) → Same n (al.allocate_block resting here count b) (al.allocate_block resting here count b)
     same_allocate_block count None = same_then n (same_emit n here _) (same_pure n value.Null)
     same_allocate_block count (Some b) = same_bind n (same_get n) (λ s. same_then n (same_emit n here _) (same_then n (same_put_memory n _) (same_then n (same_put_allocated n _) (same_pure n _))))
 
-    same_allocate : (ls : List Layout) (t : CType) (v : Value) → Same n (al.allocate resting here ls t v) (al.allocate resting here ls t v)
+    pub same_allocate : (ls : List Layout) (t : CType) (v : Value) → Same n (al.allocate resting here ls t v) (al.allocate resting here ls t v)
     same_allocate ls t v = same_allocate_block (low_bits 64 (integer v)) (block_for ls t (low_bits 64 (integer v)))
 
-    same_release_to : (m : Option Memory) → Same n (al.release_to resting here m) (al.release_to resting here m)
+    pub same_release_to : (m : Option Memory) → Same n (al.release_to resting here m) (al.release_to resting here m)
     same_release_to None = same_halt n here fault.BadFree
     same_release_to (Some m) = same_then n (same_put_memory n m) (same_pure n _)
 
-    same_release : (p : Value) → Same n (al.release resting here p) (al.release resting here p)
+    pub same_release : (p : Value) → Same n (al.release resting here p) (al.release resting here p)
     same_release p = same_then n (same_emit n here (act.Free p)) (same_bind n (same_get n) (λ s. same_release_to (freed s.memory p)))
 
-    same_ghost_code : (ls : List Layout) (g : GhostStmt) → Same n (sm.ghost_code resting ls here g) (sm.ghost_code resting ls here g)
+    pub same_ghost_code : (ls : List Layout) (g : GhostStmt) → Same n (sm.ghost_code resting ls here g) (sm.ghost_code resting ls here g)
     same_ghost_code ls g = same_bind n (same_get n) (λ s. same_bind n (same_registers n) (λ r. same_put_ghosts n _))
 
-    same_assertion : (ls : List Layout) (v : VerdictKind) (k : ℕ) (r : Predicate) → Same n (sm.assertion resting ls here v k r) (sm.assertion resting ls here v k r)
+    pub same_assertion : (ls : List Layout) (v : VerdictKind) (k : ℕ) (r : Predicate) → Same n (sm.assertion resting ls here v k r) (sm.assertion resting ls here v k r)
     same_assertion ls v k p = same_bind n (same_get n) (λ s. same_bind n (same_registers n) (λ r. same_judge n k v _))
 
   -- ---- expressions
 
   module _ (n : ℕ) (ls : List Layout) (here : Here) (call call' : ℕ → List Value → RestingCall) (h : (g : ℕ) (vs : List Value) → SameCall n (call g vs) (call' g vs)) where
     mutual
-      same_eval : (e : Expr) → Same n (ex.eval resting ls call here e) (ex.eval resting ls call' here e)
+      pub same_eval : (e : Expr) → Same n (ex.eval resting ls call here e) (ex.eval resting ls call' here e)
       same_eval (Literal k z) = same_pure n _
       same_eval Null = same_pure n _
       same_eval (Load p t) = same_bind n (same_place p) (same_load n here t)
@@ -273,38 +273,38 @@ module _ (R : ℕ → Trace → Trace → Type 0) (counts : Counts R) where
       same_eval (Free' b (more_of-Expr e end_of-Expr)) = same_bind n (same_eval e) (same_release n here)
       same_eval (Discard' b (more_of-Expr e end_of-Expr)) = same_then n (same_eval e) (same_pure n _)
 
-      same_place : (p : Place_) → Same n (ex.place resting ls call here p) (ex.place resting ls call' here p)
+      pub same_place : (p : Place_) → Same n (ex.place resting ls call here p) (ex.place resting ls call' here p)
       same_place (Own v) = same_pure n _
       same_place (Deref' b (more_of-Expr e end_of-Expr)) = same_bind n (same_eval e) (λ a. same_pure n _)
       same_place (Member' b (more_of-Place_ p end_of-Place_) o) = same_bind n (same_place p) (λ l. same_object_after n here l _)
       same_place (Index' b (more_of-Place_ p end_of-Place_) c (more_of-Expr e end_of-Expr) size) = same_bind n (same_place p) (λ l. same_bind n (same_eval e) (λ i. same_object_after n here l _))
 
-      same_all : {k : _} (e : Row_of-Expr k) → Same n (ex.all resting ls call here e) (ex.all resting ls call' here e)
+      pub same_all : {k : _} (e : Row_of-Expr k) → Same n (ex.all resting ls call here e) (ex.all resting ls call' here e)
       same_all end_of-Expr = same_pure n _
       same_all (more_of-Expr e more) = same_bind n (same_eval e) (λ v. same_bind n (same_all more) (λ vs. same_pure n _))
 
   -- ---- statements
 
   module _ (n : ℕ) where
-    same_on_next : {d : Resting Completion} {d' : Resting Completion} → Same n d d' → (l : Completion) → Same n (sm.on_next resting d l) (sm.on_next resting d' l)
+    pub same_on_next : {d : Resting Completion} {d' : Resting Completion} → Same n d d' → (l : Completion) → Same n (sm.on_next resting d l) (sm.on_next resting d' l)
     same_on_next a Next = a
     same_on_next a Broken = same_pure n _
     same_on_next a Continued = same_pure n _
     same_on_next a (Returned v) = same_pure n _
 
-    same_at_end : {d : Resting Completion} {d' : Resting Completion} → Same n d d' → (l : Completion) → Same n (sm.at_turn_end resting d l) (sm.at_turn_end resting d' l)
+    pub same_at_end : {d : Resting Completion} {d' : Resting Completion} → Same n d d' → (l : Completion) → Same n (sm.at_turn_end resting d l) (sm.at_turn_end resting d' l)
     same_at_end a Next = a
     same_at_end a Broken = same_pure n _
     same_at_end a Continued = a
     same_at_end a (Returned v) = same_pure n _
 
-    same_after_turn : {d : Resting Completion} {d' : Resting Completion} → Same n d d' → (l : Completion) → Same n (sm.after_turn resting d l) (sm.after_turn resting d' l)
+    pub same_after_turn : {d : Resting Completion} {d' : Resting Completion} → Same n d d' → (l : Completion) → Same n (sm.after_turn resting d l) (sm.after_turn resting d' l)
     same_after_turn a Next = a
     same_after_turn a Continued = a
     same_after_turn a Broken = same_pure n _
     same_after_turn a (Returned v) = same_pure n _
 
-  same_turns : (n : ℕ) (here : Here) {d d' : Resting Completion} → Same n d d' → (k k' : ℕ) → n ≤ k → n ≤ k' → Same n (sm.turns resting here d k) (sm.turns resting here d' k')
+  pub same_turns : (n : ℕ) (here : Here) {d d' : Resting Completion} → Same n d d' → (k k' : ℕ) → n ≤ k → n ≤ k' → Same n (sm.turns resting here d k) (sm.turns resting here d' k')
   same_turns zero here x k k' le le' = same_zero _ _
   same_turns (suc n) here x zero k' le le' = absurd (omega arith)
   same_turns (suc n) here x (suc k) zero le le' = absurd (omega arith)
@@ -313,23 +313,23 @@ module _ (R : ℕ → Trace → Trace → Type 0) (counts : Counts R) where
       same_emit_then n here act.Turn (same_bind n x1 (same_after_turn n (same_turns n here x1 k k' (omega arith) (omega arith))))
 
   module _ (n : ℕ) (ls : List Layout) (here : Here) (call call' : ℕ → List Value → RestingCall) (h : (g : ℕ) (vs : List Value) → SameCall n (call g vs) (call' g vs)) (k k' : ℕ) (le : n ≤ k) (le' : n ≤ k') where
-    same_value : (e : Expr) → Same n (ex.eval resting ls call here e) (ex.eval resting ls call' here e)
+    pub same_value : (e : Expr) → Same n (ex.eval resting ls call here e) (ex.eval resting ls call' here e)
     same_value = same_eval n ls here call call' h
 
-    same_when : (o : Option Expr) {d : Resting Completion} {d' : Resting Completion} → Same n d d' → Same n (sm.when_test resting (option_map (ex.eval resting ls call here) o) d) (sm.when_test resting (option_map (ex.eval resting ls call' here) o) d')
+    pub same_when : (o : Option Expr) {d : Resting Completion} {d' : Resting Completion} → Same n d d' → Same n (sm.when_test resting (option_map (ex.eval resting ls call here) o) d) (sm.when_test resting (option_map (ex.eval resting ls call' here) o) d')
     same_when None a = a
     same_when (Some e) a = same_bind n (same_value e) (λ v. same_cond n (truth v) a (same_pure n Broken))
 
-    same_step_of : (o : Option Expr) → Same n (sm.loop_step resting (option_map (ex.eval resting ls call here) o)) (sm.loop_step resting (option_map (ex.eval resting ls call' here) o))
+    pub same_step_of : (o : Option Expr) → Same n (sm.loop_step resting (option_map (ex.eval resting ls call here) o)) (sm.loop_step resting (option_map (ex.eval resting ls call' here) o))
     same_step_of None = same_pure n Next
     same_step_of (Some e) = same_bind n (same_value e) (λ v. same_pure n Next)
 
-    same_return : (o : Option Expr) → Same n (sm.exec_return resting ls call here k o) (sm.exec_return resting ls call' here k' o)
+    pub same_return : (o : Option Expr) → Same n (sm.exec_return resting ls call here k o) (sm.exec_return resting ls call' here k' o)
     same_return None = same_pure n _
     same_return (Some e) = same_bind n (same_value e) (λ v. same_pure n _)
 
     mutual
-      same_exec : (s : Stmt) → Same n (sm.exec resting ls call here k s) (sm.exec resting ls call' here k' s)
+      pub same_exec : (s : Stmt) → Same n (sm.exec resting ls call here k s) (sm.exec resting ls call' here k' s)
       same_exec st.Empty = same_pure n _
       same_exec (st.Eval e) = same_then n (same_value e) (same_pure n _)
       same_exec (st.Init v o t e) = same_bind n (same_value e) (λ w. same_then n (same_store n here t (designated here.activation v o) w) (same_pure n Next))
@@ -344,17 +344,17 @@ module _ (R : ℕ → Trace → Trace → Type 0) (counts : Counts R) where
       same_exec (st.Ghost g) = same_then n (same_ghost_code n here ls g) (same_pure n _)
       same_exec (st.Assert v j r) = same_then n (same_assertion n here ls v j r) (same_pure n _)
 
-      same_row : {j : _} (ss : Row_of-Stmt j) → Same n (sm.exec_row resting ls call here k ss) (sm.exec_row resting ls call' here k' ss)
+      pub same_row : {j : _} (ss : Row_of-Stmt j) → Same n (sm.exec_row resting ls call here k ss) (sm.exec_row resting ls call' here k' ss)
       same_row end_of-Stmt = same_pure n _
       same_row (more_of-Stmt s more) = same_bind n (same_exec s) (same_on_next n (same_row more))
 
-    same_exec_all : (ss : List Stmt) → Same n (sm.exec_all resting ls call here k ss) (sm.exec_all resting ls call' here k' ss)
+    pub same_exec_all : (ss : List Stmt) → Same n (sm.exec_all resting ls call here k ss) (sm.exec_all resting ls call' here k' ss)
     same_exec_all [] = same_pure n _
     same_exec_all (s ∷ ss) = same_bind n (same_exec s) (same_on_next n (same_exec_all ss))
 
   -- annotations make no call
   module _ (n : ℕ) (ls : List Layout) (here : Here) (call call' : ℕ → List Value → RestingCall) (k k' : ℕ) (le : n ≤ k) (le' : n ≤ k') where
-    same_annotations : (ss : List Stmt) → Same n (sm.exec_all resting ls call here k (annotations ss)) (sm.exec_all resting ls call' here k' (annotations ss))
+    pub same_annotations : (ss : List Stmt) → Same n (sm.exec_all resting ls call here k (annotations ss)) (sm.exec_all resting ls call' here k' (annotations ss))
     same_annotations (st.Ghost g ∷ ss) = same_bind n (same_then n (same_ghost_code n here ls g) (same_pure n Next)) (same_on_next n (same_annotations ss))
     same_annotations (st.Assert v j r ∷ ss) = same_bind n (same_then n (same_assertion n here ls v j r) (same_pure n Next)) (same_on_next n (same_annotations ss))
     same_annotations _ = same_pure n _
@@ -362,31 +362,31 @@ module _ (R : ℕ → Trace → Trace → Type 0) (counts : Counts R) where
   -- ---- calls and runs
 
   module _ (n : ℕ) where
-    same_open : (ls : List Layout) (f : Function) (vs : List Value) → Same n (ca.open_frame resting ls f vs) (ca.open_frame resting ls f vs)
+    pub same_open : (ls : List Layout) (f : Function) (vs : List Value) → Same n (ca.open_frame resting ls f vs) (ca.open_frame resting ls f vs)
     same_open ls f vs = same_bind n (same_get n) (λ s. same_then n (same_put_memory n _) (same_then n (same_put_ghosts n _) (same_put_made n _)))
 
-    same_close : Same n (ca.close_frame resting) (ca.close_frame resting)
+    pub same_close : Same n (ca.close_frame resting) (ca.close_frame resting)
     same_close = same_bind n (same_get n) (λ s. same_then n (same_put_memory n _) (same_put_ghosts n _))
 
-    same_returned : (t : CType) (v : Option Value) → Same n (ca.returned resting t v) (ca.returned resting t v)
+    pub same_returned : (t : CType) (v : Option Value) → Same n (ca.returned resting t v) (ca.returned resting t v)
     same_returned type.Void None = same_pure n None
     same_returned type.Void (Some v) = same_stop n _ tt
     same_returned _ None = same_stop n _ tt
     same_returned _ (Some v) = same_pure n (Some v)
 
-    same_fallen_off : (here : Here) (b : Bool) (t : CType) → Same n (ca.fallen_off resting here b t) (ca.fallen_off resting here b t)
+    pub same_fallen_off : (here : Here) (b : Bool) (t : CType) → Same n (ca.fallen_off resting here b t) (ca.fallen_off resting here b t)
     same_fallen_off here true t = same_pure n _
     same_fallen_off here false type.Void = same_pure n _
     same_fallen_off here false _ = same_halt n here _
 
-    same_given : (here : Here) (b : Bool) (t : CType) (l : Completion) → Same n (ca.given_back resting here b t l) (ca.given_back resting here b t l)
+    pub same_given : (here : Here) (b : Bool) (t : CType) (l : Completion) → Same n (ca.given_back resting here b t l) (ca.given_back resting here b t l)
     same_given here b t (Returned v) = same_returned t v
     same_given here b t Next = same_fallen_off here b t
     same_given here b t Broken = same_stop n _ tt
     same_given here b t Continued = same_stop n _ tt
 
   module _ (q : Core) (k k' : ℕ) where
-    same_activation : (n : ℕ) → suc n ≤ k → suc n ≤ k' → (call call' : ℕ → List Value → RestingCall) → ((g : ℕ) (vs : List Value) → SameCall n (call g vs) (call' g vs)) → (g : ℕ) (f : Function) (body : List Stmt) (vs : List Value) → Same (suc n) (ca.activation resting q k call g f body vs) (ca.activation resting q k' call' g f body vs)
+    pub same_activation : (n : ℕ) → suc n ≤ k → suc n ≤ k' → (call call' : ℕ → List Value → RestingCall) → ((g : ℕ) (vs : List Value) → SameCall n (call g vs) (call' g vs)) → (g : ℕ) (f : Function) (body : List Stmt) (vs : List Value) → Same (suc n) (ca.activation resting q k call g f body vs) (ca.activation resting q k' call' g f body vs)
     same_activation n le le' call call' h g f body vs =
         same_bind (suc n) (same_get (suc n)) (λ s.
         let here : Here = record { function = g; activation = s.made } in
@@ -397,15 +397,15 @@ module _ (R : ℕ → Trace → Trace → Type 0) (counts : Counts R) where
         same_bind n (same_given n here _ f.result l) (λ v.
         same_then n (same_emit n here _) (same_then n (same_close n) (same_pure n _))))))))
 
-    same_call_body : (n : ℕ) → suc n ≤ k → suc n ≤ k' → (call call' : ℕ → List Value → RestingCall) → ((g : ℕ) (vs : List Value) → SameCall n (call g vs) (call' g vs)) → (g : ℕ) (f : Function) (body : Option (List Stmt)) (vs : List Value) → SameCall (suc n) (ca.call_body resting q k call g f body vs) (ca.call_body resting q k' call' g f body vs)
+    pub same_call_body : (n : ℕ) → suc n ≤ k → suc n ≤ k' → (call call' : ℕ → List Value → RestingCall) → ((g : ℕ) (vs : List Value) → SameCall n (call g vs) (call' g vs)) → (g : ℕ) (f : Function) (body : Option (List Stmt)) (vs : List Value) → SameCall (suc n) (ca.call_body resting q k call g f body vs) (ca.call_body resting q k' call' g f body vs)
     same_call_body n le le' call call' h g f None vs = same_alone (suc n) [] (same_stop (suc n) (Fault fault.Invalid) tt)
     same_call_body n le le' call call' h g f (Some body) vs = same_alone (suc n) (unset_registers f.registers) (same_activation n le le' call call' h g f body vs)
 
-    same_call_of : (n : ℕ) → suc n ≤ k → suc n ≤ k' → (call call' : ℕ → List Value → RestingCall) → ((g : ℕ) (vs : List Value) → SameCall n (call g vs) (call' g vs)) → (g : ℕ) (f : Option Function) (vs : List Value) → SameCall (suc n) (ca.call_of resting q k call g f vs) (ca.call_of resting q k' call' g f vs)
+    pub same_call_of : (n : ℕ) → suc n ≤ k → suc n ≤ k' → (call call' : ℕ → List Value → RestingCall) → ((g : ℕ) (vs : List Value) → SameCall n (call g vs) (call' g vs)) → (g : ℕ) (f : Option Function) (vs : List Value) → SameCall (suc n) (ca.call_of resting q k call g f vs) (ca.call_of resting q k' call' g f vs)
     same_call_of n le le' call call' h g None vs = same_alone (suc n) [] (same_stop (suc n) (Fault fault.Invalid) tt)
     same_call_of n le le' call call' h g (Some f) vs = same_call_body n le le' call call' h g f f.body vs
 
-    same_calls : (n depth depth' : ℕ) → n ≤ depth → n ≤ depth' → n ≤ k → n ≤ k' → (g : ℕ) (vs : List Value) → SameCall n (ca.calls resting q k depth g vs) (ca.calls resting q k' depth' g vs)
+    pub same_calls : (n depth depth' : ℕ) → n ≤ depth → n ≤ depth' → n ≤ k → n ≤ k' → (g : ℕ) (vs : List Value) → SameCall n (ca.calls resting q k depth g vs) (ca.calls resting q k' depth' g vs)
     same_calls zero depth depth' a a' b b' g vs = call_zero _ _
     same_calls (suc n) zero depth' a a' b b' g vs = absurd (omega arith)
     same_calls (suc n) (suc depth) zero a a' b b' g vs = absurd (omega arith)

@@ -34,7 +34,8 @@ use Rattle.step_meaning.specs.declared.program.Declared.{Declared}
 use Rattle.step_meaning.specs.Steps.{Step, Item, Made, Judged, Exit, Fault, More, items, steps, end}
 use Rattle.step_meaning.specs.Runs.{run}
 use Rattle.step_meaning.specs.First.{output}
-use Rattle.step_meaning.specs.Limits.{Exited, CellsFull, CallsFull, Spent, outcome}
+use Rattle.step_meaning.specs.Memory.{empty_block}
+use Rattle.step_meaning.specs.Limits.{chunks_of, Exited, CellsFull, CallsFull, Spent, outcome}
 
 -- ---- parts of programs
 
@@ -394,6 +395,13 @@ given_back = refl
 
 not_enough : outcome repeated [] 50 10 1000 ≡ record { made = 5; end = CellsFull }
 not_enough = refl
+
+-- 16 cells are one chunk, 17 are two
+sixteen_cells : chunks_of (empty_block [] (declared (array_of int 16))) ≡ 1
+sixteen_cells = refl
+
+seventeen_cells : chunks_of (empty_block [] (declared (array_of int 17))) ≡ 2
+seventeen_cells = refl
 
 -- ---- int a[1616]; int main(void) { return 0; }
 

@@ -23,7 +23,7 @@ use Rattle.step_meaning.specs.TermKinds.{Kind, Integer, OfAccess, is_register_pl
 use Rattle.step_meaning.specs.Annotations.{Allowed}
 use Rattle.step_meaning.specs.FitsBounded.{AreTyped, IsTypedSight, FitsBounded}
 use Rattle.step_meaning.proofs.IntervalEnds.{within, in_alone, in_sum, in_product}
-use Rattle.step_meaning.proofs.ValuesInside.{some_is, some_of_bind, some_if, negation_kind, operation_kinds, move_kinds, indexed_parts, read_place, address_place, relation_kinds, object_kind, Inside, where_defined, product_within, value_inside, place_inside}
+use Rattle.step_meaning.proofs.ValuesInside.{some_of_bind, some_if, negation_kind, operation_kinds, move_kinds, indexed_parts, read_place, address_place, relation_kinds, object_kind, Inside, where_defined, product_within, value_inside, place_inside}
 
 -- ---- what keeps the limit has an interval that does
 

@@ -43,97 +43,97 @@ use Rattle.step_meaning.specs.Runs.{run, direct_run, logged_by, start_state, sta
 use Rattle.step_meaning.proofs.Tells.{rest_after_call, Tells, CallTells, tells_bind, tells_then, tells_pure, tells_stop, tells_get, tells_put_memory, tells_put_ghosts, tells_put_input, tells_put_made, tells_put_allocated, tells_registers, tells_put_registers, tells_judge, tells_halt, tells_misuse, tells_cond, tells_emit, call_tells_alone, tells_through}
 
 module _ (here : Here) where
-  tells_checked : {A : Type 0} (c : Result A RunFault) → Tells (acc.checked resting here c) (acc.checked direct here c)
+  pub tells_checked : {A : Type 0} (c : Result A RunFault) → Tells (acc.checked resting here c) (acc.checked direct here c)
   tells_checked (Ok a) = tells_pure a
   tells_checked (Err f) = tells_halt here f
 
-  tells_held_register : (c : Option Cell) → Tells (acc.held_register resting here c) (acc.held_register direct here c)
+  pub tells_held_register : (c : Option Cell) → Tells (acc.held_register resting here c) (acc.held_register direct here c)
   tells_held_register None = tells_misuse here fault.Invalid
   tells_held_register (Some Nothing) = tells_misuse here fault.Uninit
   tells_held_register (Some (Holds v)) = tells_pure v
 
-  tells_held : (c : Option Cell) → Tells (acc.held resting here c) (acc.held direct here c)
+  pub tells_held : (c : Option Cell) → Tells (acc.held resting here c) (acc.held direct here c)
   tells_held None = tells_halt here fault.Invalid
   tells_held (Some Nothing) = tells_halt here fault.Uninit
   tells_held (Some (Holds v)) = tells_pure v
 
-  tells_load : (t : CType) (p : Lvalue) → Tells (acc.load resting here t p) (acc.load direct here t p)
+  pub tells_load : (t : CType) (p : Lvalue) → Tells (acc.load resting here t p) (acc.load direct here t p)
   tells_load t (InRegister i) = tells_bind tells_registers (λ r. tells_held_register (register_at r i t))
   tells_load t (At p) = tells_then (tells_emit here (act.Read p)) (tells_bind tells_get (λ s. tells_held (reached s.memory p t)))
 
-  tells_write_at : (p v : Value) (c : Option Cell) → Tells (acc.write_at resting here p v c) (acc.write_at direct here p v c)
+  pub tells_write_at : (p v : Value) (c : Option Cell) → Tells (acc.write_at resting here p v c) (acc.write_at direct here p v c)
   tells_write_at p v None = tells_halt here fault.Invalid
   tells_write_at p v (Some c) = tells_bind tells_get (λ s. tells_then (tells_put_memory (stored s.memory p (Holds v))) (tells_pure v))
 
-  tells_write_register : (i : ℕ) (v : Value) (c : Option Cell) → Tells (acc.write_register resting here i v c) (acc.write_register direct here i v c)
+  pub tells_write_register : (i : ℕ) (v : Value) (c : Option Cell) → Tells (acc.write_register resting here i v c) (acc.write_register direct here i v c)
   tells_write_register i v None = tells_misuse here fault.Invalid
   tells_write_register i v (Some c) = tells_bind tells_registers (λ r. tells_then (tells_put_registers (set_register r i v)) (tells_pure v))
 
-  tells_store : (t : CType) (p : Lvalue) (v : Value) → Tells (acc.store resting here t p v) (acc.store direct here t p v)
+  pub tells_store : (t : CType) (p : Lvalue) (v : Value) → Tells (acc.store resting here t p v) (acc.store direct here t p v)
   tells_store t (InRegister i) v = tells_bind tells_registers (λ r. tells_write_register i v (register_at r i t))
   tells_store t (At p) v = tells_then (tells_emit here (act.Write p v)) (tells_bind tells_get (λ s. tells_write_at p v (reached s.memory p t)))
 
-  tells_move_by : (p : Value) (by : ℤ) → Tells (acc.move_by resting here p by) (acc.move_by direct here p by)
+  pub tells_move_by : (p : Value) (by : ℤ) → Tells (acc.move_by resting here p by) (acc.move_by direct here p by)
   tells_move_by p by = tells_bind tells_get (λ s. tells_checked (moved p (room_at s.memory p) by))
 
-  tells_address_of : (l : Lvalue) → Tells (acc.address_of resting l) (acc.address_of direct l)
+  pub tells_address_of : (l : Lvalue) → Tells (acc.address_of resting l) (acc.address_of direct l)
   tells_address_of (InRegister i) = tells_stop (Fault fault.Invalid)
   tells_address_of (At p) = tells_pure p
 
-  tells_object_after : (l : Lvalue) (by : ℤ) → Tells (acc.object_after resting here l by) (acc.object_after direct here l by)
+  pub tells_object_after : (l : Lvalue) (by : ℤ) → Tells (acc.object_after resting here l by) (acc.object_after direct here l by)
   tells_object_after l by = tells_bind (tells_address_of l) (λ p. tells_bind (tells_move_by p by) (λ q. tells_pure (At q)))
 
-  tells_int : (c : Result ℤ RunFault) → Tells (acc.as_int resting (acc.checked resting here c)) (acc.as_int direct (acc.checked direct here c))
+  pub tells_int : (c : Result ℤ RunFault) → Tells (acc.as_int resting (acc.checked resting here c)) (acc.as_int direct (acc.checked direct here c))
   tells_int c = tells_bind (tells_checked c) (λ z. tells_pure (value.Int z))
 
-  tells_truth : (c : Result Bool RunFault) → Tells (acc.as_truth resting (acc.checked resting here c)) (acc.as_truth direct (acc.checked direct here c))
+  pub tells_truth : (c : Result Bool RunFault) → Tells (acc.as_truth resting (acc.checked resting here c)) (acc.as_truth direct (acc.checked direct here c))
   tells_truth c = tells_bind (tells_checked c) (λ b. tells_pure (of_truth b))
 
-  tells_move_elements : (side : Side) (size : ℕ) (a b : Value) → Tells (acc.move_elements resting here side size a b) (acc.move_elements direct here side size a b)
+  pub tells_move_elements : (side : Side) (size : ℕ) (a b : Value) → Tells (acc.move_elements resting here side size a b) (acc.move_elements direct here side size a b)
   tells_move_elements PointerFirst size a b = tells_move_by a _
   tells_move_elements PointerLast size a b = tells_move_by b _
   tells_move_elements Minus size a b = tells_move_by a _
 
-  tells_updated : (t : CType) (o : UpdateOp) (old v : Value) → Tells (acc.updated resting here t o old v) (acc.updated direct here t o old v)
+  pub tells_updated : (t : CType) (o : UpdateOp) (old v : Value) → Tells (acc.updated resting here t o old v) (acc.updated direct here t o old v)
   tells_updated t (Integer o k) old v = tells_bind (tells_bind (tells_checked _) (λ z. tells_pure _)) (λ z. tells_pure _)
   tells_updated t (Forward size) old v = tells_move_by old _
   tells_updated t (Backward size) old v = tells_move_by old _
 
-  tells_next_byte : (bs : List ℕ) → Tells (acc.next_byte resting here bs) (acc.next_byte direct here bs)
+  pub tells_next_byte : (bs : List ℕ) → Tells (acc.next_byte resting here bs) (acc.next_byte direct here bs)
   tells_next_byte [] = tells_pure _
   tells_next_byte (b ∷ bs) = tells_then (tells_put_input bs) (tells_pure _)
 
-  tells_get_char : Tells (acc.get_char resting here) (acc.get_char direct here)
+  pub tells_get_char : Tells (acc.get_char resting here) (acc.get_char direct here)
   tells_get_char = tells_then (tells_emit here act.Input) (tells_bind tells_get (λ s. tells_next_byte s.input))
 
-  tells_put_char : (v : Value) → Tells (acc.put_char resting here v) (acc.put_char direct here v)
+  pub tells_put_char : (v : Value) → Tells (acc.put_char resting here v) (acc.put_char direct here v)
   tells_put_char v = tells_then (tells_emit here _) (tells_pure _)
 
-  tells_allocate_block : (count : ℕ) (b : Option Block) → Tells (al.allocate_block resting here count b) (al.allocate_block direct here count b)
+  pub tells_allocate_block : (count : ℕ) (b : Option Block) → Tells (al.allocate_block resting here count b) (al.allocate_block direct here count b)
   tells_allocate_block count None = tells_then (tells_emit here _) (tells_pure value.Null)
   tells_allocate_block count (Some b) = tells_bind tells_get (λ s. tells_then (tells_emit here _) (tells_then (tells_put_memory _) (tells_then (tells_put_allocated _) (tells_pure _))))
 
-  tells_allocate : (ls : List Layout) (t : CType) (v : Value) → Tells (al.allocate resting here ls t v) (al.allocate direct here ls t v)
+  pub tells_allocate : (ls : List Layout) (t : CType) (v : Value) → Tells (al.allocate resting here ls t v) (al.allocate direct here ls t v)
   tells_allocate ls t v = tells_allocate_block (low_bits 64 (integer v)) (block_for ls t (low_bits 64 (integer v)))
 
-  tells_release_to : (m : Option Memory) → Tells (al.release_to resting here m) (al.release_to direct here m)
+  pub tells_release_to : (m : Option Memory) → Tells (al.release_to resting here m) (al.release_to direct here m)
   tells_release_to None = tells_halt here fault.BadFree
   tells_release_to (Some m) = tells_then (tells_put_memory m) (tells_pure _)
 
-  tells_release : (p : Value) → Tells (al.release resting here p) (al.release direct here p)
+  pub tells_release : (p : Value) → Tells (al.release resting here p) (al.release direct here p)
   tells_release p = tells_then (tells_emit here (act.Free p)) (tells_bind tells_get (λ s. tells_release_to (freed s.memory p)))
 
-  tells_ghost_code : (ls : List Layout) (g : GhostStmt) → Tells (sm.ghost_code resting ls here g) (sm.ghost_code direct ls here g)
+  pub tells_ghost_code : (ls : List Layout) (g : GhostStmt) → Tells (sm.ghost_code resting ls here g) (sm.ghost_code direct ls here g)
   tells_ghost_code ls g = tells_bind tells_get (λ s. tells_bind tells_registers (λ r. tells_put_ghosts _))
 
-  tells_assertion : (ls : List Layout) (v : VerdictKind) (k : ℕ) (r : Predicate) → Tells (sm.assertion resting ls here v k r) (sm.assertion direct ls here v k r)
+  pub tells_assertion : (ls : List Layout) (v : VerdictKind) (k : ℕ) (r : Predicate) → Tells (sm.assertion resting ls here v k r) (sm.assertion direct ls here v k r)
   tells_assertion ls v k p = tells_bind tells_get (λ s. tells_bind tells_registers (λ r. tells_judge k v _))
 
 -- ---- expressions
 
 module _ (ls : List Layout) (here : Here) (call : ℕ → List Value → RestingCall) (call' : ℕ → List Value → DirectCall) (h : (g : ℕ) (vs : List Value) → CallTells (call g vs) (call' g vs)) where
   mutual
-    tells_eval : (e : Expr) → Tells (ex.eval resting ls call here e) (ex.eval direct ls call' here e)
+    pub tells_eval : (e : Expr) → Tells (ex.eval resting ls call here e) (ex.eval direct ls call' here e)
     tells_eval (Literal k z) = tells_pure _
     tells_eval Null = tells_pure _
     tells_eval (Load p t) = tells_bind (tells_place p) (tells_load here t)
@@ -157,59 +157,59 @@ module _ (ls : List Layout) (here : Here) (call : ℕ → List Value → Resting
     tells_eval (Free' b (more_of-Expr e end_of-Expr)) = tells_bind (tells_eval e) (tells_release here)
     tells_eval (Discard' b (more_of-Expr e end_of-Expr)) = tells_then (tells_eval e) (tells_pure _)
 
-    tells_place : (p : Place_) → Tells (ex.place resting ls call here p) (ex.place direct ls call' here p)
+    pub tells_place : (p : Place_) → Tells (ex.place resting ls call here p) (ex.place direct ls call' here p)
     tells_place (Own v) = tells_pure _
     tells_place (Deref' b (more_of-Expr e end_of-Expr)) = tells_bind (tells_eval e) (λ a. tells_pure _)
     tells_place (Member' b (more_of-Place_ p end_of-Place_) o) = tells_bind (tells_place p) (λ l. tells_object_after here l _)
     tells_place (Index' b (more_of-Place_ p end_of-Place_) c (more_of-Expr e end_of-Expr) size) = tells_bind (tells_place p) (λ l. tells_bind (tells_eval e) (λ i. tells_object_after here l _))
 
-    tells_all : {k : _} (e : Row_of-Expr k) → Tells (ex.all resting ls call here e) (ex.all direct ls call' here e)
+    pub tells_all : {k : _} (e : Row_of-Expr k) → Tells (ex.all resting ls call here e) (ex.all direct ls call' here e)
     tells_all end_of-Expr = tells_pure _
     tells_all (more_of-Expr e more) = tells_bind (tells_eval e) (λ v. tells_bind (tells_all more) (λ vs. tells_pure _))
 
 -- ---- statements
 
 module _ where
-  tells_on_next : {d : Resting Completion} {d' : Direct Completion} → Tells d d' → (l : Completion) → Tells (sm.on_next resting d l) (sm.on_next direct d' l)
+  pub tells_on_next : {d : Resting Completion} {d' : Direct Completion} → Tells d d' → (l : Completion) → Tells (sm.on_next resting d l) (sm.on_next direct d' l)
   tells_on_next a Next = a
   tells_on_next a Broken = tells_pure _
   tells_on_next a Continued = tells_pure _
   tells_on_next a (Returned v) = tells_pure _
 
-  tells_at_end : {d : Resting Completion} {d' : Direct Completion} → Tells d d' → (l : Completion) → Tells (sm.at_turn_end resting d l) (sm.at_turn_end direct d' l)
+  pub tells_at_end : {d : Resting Completion} {d' : Direct Completion} → Tells d d' → (l : Completion) → Tells (sm.at_turn_end resting d l) (sm.at_turn_end direct d' l)
   tells_at_end a Next = a
   tells_at_end a Broken = tells_pure _
   tells_at_end a Continued = a
   tells_at_end a (Returned v) = tells_pure _
 
-  tells_after_turn : {d : Resting Completion} {d' : Direct Completion} → Tells d d' → (l : Completion) → Tells (sm.after_turn resting d l) (sm.after_turn direct d' l)
+  pub tells_after_turn : {d : Resting Completion} {d' : Direct Completion} → Tells d d' → (l : Completion) → Tells (sm.after_turn resting d l) (sm.after_turn direct d' l)
   tells_after_turn a Next = a
   tells_after_turn a Continued = a
   tells_after_turn a Broken = tells_pure _
   tells_after_turn a (Returned v) = tells_pure _
 
-tells_turns : (here : Here) {d : Resting Completion} {d' : Direct Completion} → Tells d d' → (k : ℕ) → Tells (sm.turns resting here d k) (sm.turns direct here d' k)
+pub tells_turns : (here : Here) {d : Resting Completion} {d' : Direct Completion} → Tells d d' → (k : ℕ) → Tells (sm.turns resting here d k) (sm.turns direct here d' k)
 tells_turns here x zero = tells_stop More
 tells_turns here x (suc k) = tells_then (tells_emit here act.Turn) (tells_bind x (tells_after_turn (tells_turns here x k)))
 
 module _ (ls : List Layout) (here : Here) (call : ℕ → List Value → RestingCall) (call' : ℕ → List Value → DirectCall) (h : (g : ℕ) (vs : List Value) → CallTells (call g vs) (call' g vs)) (k : ℕ) where
-  tells_value : (e : Expr) → Tells (ex.eval resting ls call here e) (ex.eval direct ls call' here e)
+  pub tells_value : (e : Expr) → Tells (ex.eval resting ls call here e) (ex.eval direct ls call' here e)
   tells_value = tells_eval ls here call call' h
 
-  tells_when : (o : Option Expr) {d : Resting Completion} {d' : Direct Completion} → Tells d d' → Tells (sm.when_test resting (option_map (ex.eval resting ls call here) o) d) (sm.when_test direct (option_map (ex.eval direct ls call' here) o) d')
+  pub tells_when : (o : Option Expr) {d : Resting Completion} {d' : Direct Completion} → Tells d d' → Tells (sm.when_test resting (option_map (ex.eval resting ls call here) o) d) (sm.when_test direct (option_map (ex.eval direct ls call' here) o) d')
   tells_when None a = a
   tells_when (Some e) a = tells_bind (tells_value e) (λ v. tells_cond (truth v) a (tells_pure Broken))
 
-  tells_step_of : (o : Option Expr) → Tells (sm.loop_step resting (option_map (ex.eval resting ls call here) o)) (sm.loop_step direct (option_map (ex.eval direct ls call' here) o))
+  pub tells_step_of : (o : Option Expr) → Tells (sm.loop_step resting (option_map (ex.eval resting ls call here) o)) (sm.loop_step direct (option_map (ex.eval direct ls call' here) o))
   tells_step_of None = tells_pure Next
   tells_step_of (Some e) = tells_bind (tells_value e) (λ v. tells_pure Next)
 
-  tells_return : (o : Option Expr) → Tells (sm.exec_return resting ls call here k o) (sm.exec_return direct ls call' here k o)
+  pub tells_return : (o : Option Expr) → Tells (sm.exec_return resting ls call here k o) (sm.exec_return direct ls call' here k o)
   tells_return None = tells_pure _
   tells_return (Some e) = tells_bind (tells_value e) (λ v. tells_pure _)
 
   mutual
-    tells_exec : (s : Stmt) → Tells (sm.exec resting ls call here k s) (sm.exec direct ls call' here k s)
+    pub tells_exec : (s : Stmt) → Tells (sm.exec resting ls call here k s) (sm.exec direct ls call' here k s)
     tells_exec st.Empty = tells_pure _
     tells_exec (st.Eval e) = tells_then (tells_value e) (tells_pure _)
     tells_exec (st.Init v o t e) = tells_bind (tells_value e) (λ w. tells_then (tells_store here t (designated here.activation v o) w) (tells_pure Next))
@@ -224,17 +224,17 @@ module _ (ls : List Layout) (here : Here) (call : ℕ → List Value → Resting
     tells_exec (st.Ghost g) = tells_then (tells_ghost_code here ls g) (tells_pure _)
     tells_exec (st.Assert v j r) = tells_then (tells_assertion here ls v j r) (tells_pure _)
 
-    tells_row : {j : _} (ss : Row_of-Stmt j) → Tells (sm.exec_row resting ls call here k ss) (sm.exec_row direct ls call' here k ss)
+    pub tells_row : {j : _} (ss : Row_of-Stmt j) → Tells (sm.exec_row resting ls call here k ss) (sm.exec_row direct ls call' here k ss)
     tells_row end_of-Stmt = tells_pure _
     tells_row (more_of-Stmt s more) = tells_bind (tells_exec s) (tells_on_next (tells_row more))
 
-  tells_exec_all : (ss : List Stmt) → Tells (sm.exec_all resting ls call here k ss) (sm.exec_all direct ls call' here k ss)
+  pub tells_exec_all : (ss : List Stmt) → Tells (sm.exec_all resting ls call here k ss) (sm.exec_all direct ls call' here k ss)
   tells_exec_all [] = tells_pure _
   tells_exec_all (s ∷ ss) = tells_bind (tells_exec s) (tells_on_next (tells_exec_all ss))
 
 -- annotations make no call
 module _ (ls : List Layout) (here : Here) (call : ℕ → List Value → RestingCall) (call' : ℕ → List Value → DirectCall) (k : ℕ) where
-  tells_annotations : (ss : List Stmt) → Tells (sm.exec_all resting ls call here k (annotations ss)) (sm.exec_all direct ls call' here k (annotations ss))
+  pub tells_annotations : (ss : List Stmt) → Tells (sm.exec_all resting ls call here k (annotations ss)) (sm.exec_all direct ls call' here k (annotations ss))
   tells_annotations (st.Ghost g ∷ ss) = tells_bind (tells_then (tells_ghost_code here ls g) (tells_pure Next)) (tells_on_next (tells_annotations ss))
   tells_annotations (st.Assert v j r ∷ ss) = tells_bind (tells_then (tells_assertion here ls v j r) (tells_pure Next)) (tells_on_next (tells_annotations ss))
   tells_annotations _ = tells_pure _
@@ -242,31 +242,31 @@ module _ (ls : List Layout) (here : Here) (call : ℕ → List Value → Resting
 -- ---- calls and runs
 
 module _ where
-  tells_open : (ls : List Layout) (f : Function) (vs : List Value) → Tells (ca.open_frame resting ls f vs) (ca.open_frame direct ls f vs)
+  pub tells_open : (ls : List Layout) (f : Function) (vs : List Value) → Tells (ca.open_frame resting ls f vs) (ca.open_frame direct ls f vs)
   tells_open ls f vs = tells_bind tells_get (λ s. tells_then (tells_put_memory _) (tells_then (tells_put_ghosts _) (tells_put_made _)))
 
-  tells_close : Tells (ca.close_frame resting) (ca.close_frame direct)
+  pub tells_close : Tells (ca.close_frame resting) (ca.close_frame direct)
   tells_close = tells_bind tells_get (λ s. tells_then (tells_put_memory _) (tells_put_ghosts _))
 
-  tells_returned : (t : CType) (v : Option Value) → Tells (ca.returned resting t v) (ca.returned direct t v)
+  pub tells_returned : (t : CType) (v : Option Value) → Tells (ca.returned resting t v) (ca.returned direct t v)
   tells_returned type.Void None = tells_pure None
   tells_returned type.Void (Some v) = tells_stop _
   tells_returned _ None = tells_stop _
   tells_returned _ (Some v) = tells_pure (Some v)
 
-  tells_fallen_off : (here : Here) (b : Bool) (t : CType) → Tells (ca.fallen_off resting here b t) (ca.fallen_off direct here b t)
+  pub tells_fallen_off : (here : Here) (b : Bool) (t : CType) → Tells (ca.fallen_off resting here b t) (ca.fallen_off direct here b t)
   tells_fallen_off here true t = tells_pure _
   tells_fallen_off here false type.Void = tells_pure _
   tells_fallen_off here false _ = tells_halt here _
 
-  tells_given : (here : Here) (b : Bool) (t : CType) (l : Completion) → Tells (ca.given_back resting here b t l) (ca.given_back direct here b t l)
+  pub tells_given : (here : Here) (b : Bool) (t : CType) (l : Completion) → Tells (ca.given_back resting here b t l) (ca.given_back direct here b t l)
   tells_given here b t (Returned v) = tells_returned t v
   tells_given here b t Next = tells_fallen_off here b t
   tells_given here b t Broken = tells_stop _
   tells_given here b t Continued = tells_stop _
 
 module _ (q : Core) (k : ℕ) where
-  tells_activation : (call : ℕ → List Value → RestingCall) (call' : ℕ → List Value → DirectCall) → ((g : ℕ) (vs : List Value) → CallTells (call g vs) (call' g vs)) → (g : ℕ) (f : Function) (body : List Stmt) (vs : List Value) → Tells (ca.activation resting q k call g f body vs) (ca.activation direct q k call' g f body vs)
+  pub tells_activation : (call : ℕ → List Value → RestingCall) (call' : ℕ → List Value → DirectCall) → ((g : ℕ) (vs : List Value) → CallTells (call g vs) (call' g vs)) → (g : ℕ) (f : Function) (body : List Stmt) (vs : List Value) → Tells (ca.activation resting q k call g f body vs) (ca.activation direct q k call' g f body vs)
   tells_activation call call' h g f body vs =
       tells_bind tells_get (λ s.
       let here : Here = record { function = g; activation = s.made } in
@@ -277,19 +277,19 @@ module _ (q : Core) (k : ℕ) where
       tells_bind (tells_given here _ f.result l) (λ v.
       tells_then (tells_emit here _) (tells_then tells_close (tells_pure _))))))))
 
-  tells_call_body : (call : ℕ → List Value → RestingCall) (call' : ℕ → List Value → DirectCall) → ((g : ℕ) (vs : List Value) → CallTells (call g vs) (call' g vs)) → (g : ℕ) (f : Function) (body : Option (List Stmt)) (vs : List Value) → CallTells (ca.call_body resting q k call g f body vs) (ca.call_body direct q k call' g f body vs)
+  pub tells_call_body : (call : ℕ → List Value → RestingCall) (call' : ℕ → List Value → DirectCall) → ((g : ℕ) (vs : List Value) → CallTells (call g vs) (call' g vs)) → (g : ℕ) (f : Function) (body : Option (List Stmt)) (vs : List Value) → CallTells (ca.call_body resting q k call g f body vs) (ca.call_body direct q k call' g f body vs)
   tells_call_body call call' h g f None vs = call_tells_alone [] (tells_stop (Fault fault.Invalid))
   tells_call_body call call' h g f (Some body) vs = call_tells_alone (unset_registers f.registers) (tells_activation call call' h g f body vs)
 
-  tells_call_of : (call : ℕ → List Value → RestingCall) (call' : ℕ → List Value → DirectCall) → ((g : ℕ) (vs : List Value) → CallTells (call g vs) (call' g vs)) → (g : ℕ) (f : Option Function) (vs : List Value) → CallTells (ca.call_of resting q k call g f vs) (ca.call_of direct q k call' g f vs)
+  pub tells_call_of : (call : ℕ → List Value → RestingCall) (call' : ℕ → List Value → DirectCall) → ((g : ℕ) (vs : List Value) → CallTells (call g vs) (call' g vs)) → (g : ℕ) (f : Option Function) (vs : List Value) → CallTells (ca.call_of resting q k call g f vs) (ca.call_of direct q k call' g f vs)
   tells_call_of call call' h g None vs = call_tells_alone [] (tells_stop (Fault fault.Invalid))
   tells_call_of call call' h g (Some f) vs = tells_call_body call call' h g f f.body vs
 
-  tells_calls : (depth g : ℕ) (vs : List Value) → CallTells (ca.calls resting q k depth g vs) (ca.calls direct q k depth g vs)
+  pub tells_calls : (depth g : ℕ) (vs : List Value) → CallTells (ca.calls resting q k depth g vs) (ca.calls direct q k depth g vs)
   tells_calls zero g vs = call_tells_alone [] (tells_stop More)
   tells_calls (suc depth) g vs = tells_call_of (ca.calls resting q k depth) (ca.calls direct q k depth) (tells_calls depth) g (slice_get q.functions g) vs
 
-after_exit : (b : CallGives) → rest_after_call b (λ v s. Stop (exit_of v)) ≡ trace_of (logged_by b)
+pub after_exit : (b : CallGives) → rest_after_call b (λ v s. Stop (exit_of v)) ≡ trace_of (logged_by b)
 after_exit (ReturnedCall v w) = refl
 after_exit (Ended e l) = refl
 

@@ -123,6 +123,13 @@ return_marks = refl
 changed_marks : marks place.Changed ≡ (true ∷ false ∷ true ∷ false ∷ false ∷ false ∷ false ∷ true ∷ false ∷ true ∷ false ∷ [])
 changed_marks = refl
 
+-- int main(void) { getchar(); putchar('a'); return 0; }: `getchar` and `putchar` are called, as the functions 0 and 1
+abbrev library_calls : Core
+library_calls = program [] [] (function int [] (s.Eval e.GetChar ∷ s.Eval (e.PutChar' tt (more_of-Expr (lit 97) end_of-Expr)) ∷ return (lit 0) ∷ []) ∷ []) 4
+
+calls_getchar : found (fold library_calls (hooks [] (point 4 place.Call [] (safe (is.Called 0 true) ∷ safe (is.Called 1 false) ∷ []) ∷ [])) (steps (run library_calls [] 9))) ≡ (true ∷ true ∷ false ∷ false ∷ [])
+calls_getchar = refl
+
 -- `\called == f`
 called_verdict : found (fold two_writes (hooks [] (point 5 place.Call [] (safe (is.Called 4 true) ∷ safe (is.Called 5 true) ∷ []) ∷ [])) two_writes_steps) ≡ (true ∷ false ∷ [])
 called_verdict = refl

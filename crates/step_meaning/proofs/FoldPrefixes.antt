@@ -48,7 +48,7 @@ either_way : (b : Bool) (m x y : Memory) → x ≡ y → cond b m x ≡ cond b m
 either_way true m x y e = refl
 either_way false m x y e = e
 
-enter_among : (ss : List Step) (n a j : ℕ) (t : Step) → j < n → At ss j t → t.activation ≡ a → IsTrue (is_enter t.action) → enter_memory (take n ss) a ≡ enter_memory ss a
+pub enter_among : (ss : List Step) (n a j : ℕ) (t : Step) → j < n → At ss j t → t.activation ≡ a → IsTrue (is_enter t.action) → enter_memory (take n ss) a ≡ enter_memory ss a
 enter_among ss zero a j t l e same enter = absurd (omega arith)
 enter_among [] (suc n) a j t l e same enter = none_is t e
 enter_among (x ∷ xs) (suc n) a zero t l e same enter = chosen (is_enter x.action && x.activation == a) x.memory (enter_memory (take n xs) a) (enter_memory xs a) (subst (λ (s : Step). (is_enter s.action && s.activation == a) ≡ true) (sym (some_is x t e)) (both_true (is_enter t.action) (t.activation == a) enter (subst (λ k. (t.activation == k) ≡ true) same (number_same t.activation))))

@@ -1,5 +1,5 @@
 -- Small programs with heap blocks, computed: each core is what the text above it stands for. `main` has the pointers p and q as its locals 0 and 1.
-use Rattle.std.proofs.Common.{◌≡◌, ℕ, Bool, true, false, refl, List, [], ◌∷◌, length, map, Option, Some, None}
+use Rattle.std.proofs.Common.{◌≡◌, ℕ, true, false, refl, List, [], ◌∷◌, length, Option, Some, None}
 use Rattle.std.specs.Prelude.{pos, slice_get, option_map}
 use Rattle.step_meaning.specs.declared.value.IntKind.TheVariants as kind
 use Rattle.step_meaning.specs.declared.value.CType.{CType}
@@ -8,10 +8,8 @@ use Rattle.step_meaning.specs.declared.value.NameKind.TheVariants as names
 use Rattle.step_meaning.specs.declared.value.Value.{Value}
 use Rattle.step_meaning.specs.declared.value.Value.TheVariants as value
 use Rattle.step_meaning.specs.declared.value.Cell.TheVariants.{Nothing}
-use Rattle.step_meaning.specs.declared.value.Action.{Action}
 use Rattle.step_meaning.specs.declared.value.Action.TheVariants as act
 use Rattle.step_meaning.specs.declared.value.RunFault.TheVariants as fault
-use Rattle.step_meaning.specs.declared.expr.IntOp.TheVariants as op
 use Rattle.step_meaning.specs.declared.expr.CompareOp.TheVariants as comparing
 use Rattle.step_meaning.specs.declared.expr.Side.TheVariants.{PointerFirst}
 use Rattle.step_meaning.specs.declared.expr.Expr.{Expr, end_of-Expr, more_of-Expr}
@@ -22,13 +20,13 @@ use Rattle.step_meaning.specs.declared.stmt.Stmt.TheVariants as s
 use Rattle.step_meaning.specs.declared.program.Core.{Core}
 use Rattle.step_meaning.specs.declared.program.HookPlace.TheVariants as place
 use Rattle.step_meaning.specs.declared.predicate.Predicate.TheVariants as is
-use Rattle.step_meaning.specs.Memory.{Memory, HeapBlock, Slot, freed}
+use Rattle.step_meaning.specs.Memory.{HeapBlock, Slot}
 use Rattle.step_meaning.specs.Steps.{Step, Exit, Fault, steps, end}
 use Rattle.step_meaning.specs.Runs.{run}
-use Rattle.step_meaning.specs.Limits.{CellsFull, Spent, Exited, outcome, chunks}
+use Rattle.step_meaning.specs.Limits.{CellsFull, Spent, Exited, outcome}
 use Rattle.step_meaning.specs.Allocation.{block_for, block_pointer, is_block_size}
 use Rattle.step_meaning.specs.Fold.{fold}
-use Rattle.step_meaning.proofs.Examples.{int, pointer_to, array_of, declared, lit, global, local, load, index, deref, assign, convert, compare, return, function, program, step_actions, found}
+use Rattle.step_meaning.proofs.Examples.{int, pointer_to, array_of, declared, lit, global, local, load, deref, assign, convert, compare, return, function, program, step_actions, found}
 use Rattle.step_meaning.proofs.ExpressionTypeExamples as typing
 use Rattle.step_meaning.proofs.FoldExamples.{safe, hooks, point}
 use Rattle.step_meaning.proofs.NormalExamples.{register}

@@ -28,7 +28,7 @@ use Rattle.step_meaning.specs.Runs.{run}
 use Rattle.step_meaning.specs.FaultsHalt.{FaultsHalt}
 use Rattle.step_meaning.specs.WellFormed.{IsWellFormed, IsWellFormedFunction}
 use Rattle.step_meaning.proofs.Examples.{declared, int, array_of, lit, local, return}
-use Rattle.step_meaning.proofs.WellFormedExamples.{named, char, node, node_layout, list, getchar, putchar, malloc, free, add, main, main_with, adding}
+use Rattle.step_meaning.proofs.WellFormedExamples.{named, char, node, node_layout, getchar, putchar, malloc, free, add, main, main_with, adding}
 
 refuted : {A : Type 0} → IsTrue false → A
 refuted e = absurd (no e)

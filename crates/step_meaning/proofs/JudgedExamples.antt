@@ -1,6 +1,6 @@
 -- Hooks whose fold judges, and others whose fold doesn't. For every traced list of the program `two_writes`, and every number of its steps, the verdicts of `keep_x` are all true exactly where none of these steps writes `x`.
 use Rattle.std.proofs.Common.{◌≡◌, ℕ, zero, suc, Bool, true, false, not, ◌&&◌, ◌||◌, ◌==◌, cond, List, [], ◌∷◌, ◌++◌, map, take, Option, Some, None, refl, sym, subst, ap, ◌∙◌, ◌⊎◌, inl, inr, lit≤, arith}
-use Rattle.std.specs.Prelude.{◌↔◌, ℤ, pos, ◌*ℤ◌, ◌+ℤ◌, slice_get, option_map, IsTrue}
+use Rattle.std.specs.Prelude.{◌↔◌, pos, ◌*ℤ◌, ◌+ℤ◌, slice_get, option_map, IsTrue}
 use Rattle.std.specs.List.{AllByRecursion}
 use Rattle.std.proofs.lemmas.Int.{ints}
 use Rattle.std.proofs.lemmas.Bool.Decides.{nat_tests}

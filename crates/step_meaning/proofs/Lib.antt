@@ -14,6 +14,7 @@ pub mod ExpressionTypeExamples
 pub mod IllFormedExamples
 pub mod InitialValueExamples
 pub mod NormalExamples
+pub mod SourceExamples
 pub mod Ranges
 pub mod OperatorRanges
 pub mod Falling
@@ -32,11 +33,17 @@ pub mod FormedFunctions
 pub mod AnnotationExamples
 pub mod FoldExamples
 pub mod HeapExamples
+pub mod OrderExamples
+pub mod GhostExamples
+pub mod SettingExamples
+pub mod AgreementExamples
 pub mod FitExamples
 pub mod IntervalEnds
 pub mod ValuesInside
 pub mod FitsBounded
 pub mod TypedSizes
+pub mod StructCells
+pub mod LaterLayouts
 pub mod TypedRuns
 pub mod TracedSights
 pub mod ScopeExamples
@@ -48,3 +55,6 @@ pub mod FoldPrefixes
 pub mod TracedPrefixes
 pub mod JudgedExamples
 pub mod AcceptedExamples
+pub mod RelatedFlows
+pub mod StrictRuns
+pub mod StrictExamples

@@ -111,50 +111,50 @@ module _ (q : Core) (here : Here) (outer : List Here) (is : (f : Function) × Is
   inner_step (act.Return g v) i s ss m h = absurd i
   inner_step _ i s ss m h = (record { function = is; names_own = tt; frames = m; innermost = (outer, refl); is_new = λ e. absurd (false_is_not_true e) }, h)
 
-  nest_bind : {A B : Type 0} {d : Resting A} {f : A → Resting B} → Nests d → ((a : A) → Nests (f a)) → Nests (resting.bind d f)
+  pub nest_bind : {A B : Type 0} {d : Resting A} {f : A → Resting B} → Nests d → ((a : A) → Nests (f a)) → Nests (resting.bind d f)
   nest_bind {f = f} a b = record { by = λ rest h s r m. a.by (λ x. f x rest) (λ x s r m. (b x).by rest h s r m) s r m }
 
-  nest_then : {A B : Type 0} {d : Resting A} {e : Resting B} → Nests d → Nests e → Nests (resting.bind d (λ a. e))
+  pub nest_then : {A B : Type 0} {d : Resting A} {e : Resting B} → Nests d → Nests e → Nests (resting.bind d (λ a. e))
   nest_then a b = nest_bind a (λ x. b)
 
-  nest_pure : {A : Type 0} (a : A) → Nests (resting.pure a)
+  pub nest_pure : {A : Type 0} (a : A) → Nests (resting.pure a)
   nest_pure a = record { by = λ rest h s r m. h a s r m }
 
-  nest_stop : {A : Type 0} (e : End) → Nests (resting.stop {A = A} e)
+  pub nest_stop : {A : Type 0} (e : End) → Nests (resting.stop {A = A} e)
   nest_stop e = record { by = λ rest h s r m. tt }
 
-  nest_halt : {A : Type 0} (f : RunFault) → Nests (resting.halt {A = A} here f)
+  pub nest_halt : {A : Type 0} (f : RunFault) → Nests (resting.halt {A = A} here f)
   nest_halt f = record { by = λ rest h s r m. inner_step (act.Halt f) tt s [] m tt }
 
-  nest_misuse : {A : Type 0} (f : RunFault) → Nests (resting.misuse {A = A} here f)
+  pub nest_misuse : {A : Type 0} (f : RunFault) → Nests (resting.misuse {A = A} here f)
   nest_misuse f = record { by = λ rest h s r m. inner_step (act.Halt f) tt s [] m tt }
 
-  nest_get : Nests resting.get
+  pub nest_get : Nests resting.get
   nest_get = record { by = λ rest h s r m. h s s r m }
 
-  nest_put_ghosts : (x : Memory) → Nests (resting.put_ghosts x)
+  pub nest_put_ghosts : (x : Memory) → Nests (resting.put_ghosts x)
   nest_put_ghosts x = record { by = λ rest h s r m. h tt (record s { ghosts = x }) r m }
 
-  nest_put_input : (x : List ℕ) → Nests (resting.put_input x)
+  pub nest_put_input : (x : List ℕ) → Nests (resting.put_input x)
   nest_put_input x = record { by = λ rest h s r m. h tt (record s { input = x }) r m }
 
-  nest_registers : Nests resting.registers
+  pub nest_registers : Nests resting.registers
   nest_registers = record { by = λ rest h s r m. h r s r m }
 
-  nest_put_registers : (x : Registers) → Nests (resting.put_registers x)
+  pub nest_put_registers : (x : Registers) → Nests (resting.put_registers x)
   nest_put_registers x = record { by = λ rest h s r m. h tt s x m }
 
-  nest_judge : (k : ℕ) (v : VerdictKind) (b : Bool) → Nests (resting.judge k v b)
+  pub nest_judge : (k : ℕ) (v : VerdictKind) (b : Bool) → Nests (resting.judge k v b)
   nest_judge k v b = record { by = λ rest h s r m. h tt s r m }
 
-  nest_cond : {A : Type 0} (b : Bool) {d e : Resting A} → Nests d → Nests e → Nests (cond b d e)
+  pub nest_cond : {A : Type 0} (b : Bool) {d e : Resting A} → Nests d → Nests e → Nests (cond b d e)
   nest_cond true x y = x
   nest_cond false x y = y
 
-  nest_emit : (a : Action) → IsInner a → Nests (resting.emit here a)
+  pub nest_emit : (a : Action) → IsInner a → Nests (resting.emit here a)
   nest_emit a i = record { by = λ rest h s r m. inner_step a i s (steps (rest tt s r)) m (h tt s r m) }
 
-  nest_through : {d : RestingCall} → CallNests q (here ∷ outer) d → Nests (resting.through d)
+  pub nest_through : {d : RestingCall} → CallNests q (here ∷ outer) d → Nests (resting.through d)
   nest_through a = record { by = λ rest h s r m. a.by (λ v s. rest v s r) (λ v s m. h v s r m) s m (λ e. absurd (some_is_open e)) }
     where
       some_is_open : (here ∷ outer) ≡ [] → ⊥
@@ -162,99 +162,99 @@ module _ (q : Core) (here : Here) (outer : List Here) (is : (f : Function) × Is
 
   -- ---- accesses
 
-  nest_checked : {A : Type 0} (c : Result A RunFault) → Nests (acc.checked resting here c)
+  pub nest_checked : {A : Type 0} (c : Result A RunFault) → Nests (acc.checked resting here c)
   nest_checked (Ok a) = nest_pure a
   nest_checked (Err f) = nest_halt f
 
-  nest_held_register : (c : Option Cell) → Nests (acc.held_register resting here c)
+  pub nest_held_register : (c : Option Cell) → Nests (acc.held_register resting here c)
   nest_held_register None = nest_misuse fault.Invalid
   nest_held_register (Some Nothing) = nest_misuse fault.Uninit
   nest_held_register (Some (Holds v)) = nest_pure v
 
-  nest_held : (c : Option Cell) → Nests (acc.held resting here c)
+  pub nest_held : (c : Option Cell) → Nests (acc.held resting here c)
   nest_held None = nest_halt fault.Invalid
   nest_held (Some Nothing) = nest_halt fault.Uninit
   nest_held (Some (Holds v)) = nest_pure v
 
-  nest_load : (t : CType) (p : Lvalue) → Nests (acc.load resting here t p)
+  pub nest_load : (t : CType) (p : Lvalue) → Nests (acc.load resting here t p)
   nest_load t (InRegister i) = nest_bind nest_registers (λ r. nest_held_register (register_at r i t))
   nest_load t (At p) = nest_then (nest_emit (act.Read p) tt) (nest_bind nest_get (λ s. nest_held (reached s.memory p t)))
 
-  nest_write_at : (p v : Value) (c : Option Cell) → Nests (acc.write_at resting here p v c)
+  pub nest_write_at : (p v : Value) (c : Option Cell) → Nests (acc.write_at resting here p v c)
   nest_write_at p v None = nest_halt fault.Invalid
   nest_write_at p v (Some c) = record { by = λ rest h s r m. h v (record s { memory = stored s.memory p (Holds v) }) r (stored_shapes s.memory p (Holds v) ∙ m) }
 
-  nest_write_register : (i : ℕ) (v : Value) (c : Option Cell) → Nests (acc.write_register resting here i v c)
+  pub nest_write_register : (i : ℕ) (v : Value) (c : Option Cell) → Nests (acc.write_register resting here i v c)
   nest_write_register i v None = nest_misuse fault.Invalid
   nest_write_register i v (Some c) = nest_bind nest_registers (λ r. nest_then (nest_put_registers (set_register r i v)) (nest_pure v))
 
-  nest_store : (t : CType) (p : Lvalue) (v : Value) → Nests (acc.store resting here t p v)
+  pub nest_store : (t : CType) (p : Lvalue) (v : Value) → Nests (acc.store resting here t p v)
   nest_store t (InRegister i) v = nest_bind nest_registers (λ r. nest_write_register i v (register_at r i t))
   nest_store t (At p) v = nest_then (nest_emit (act.Write p v) tt) (nest_bind nest_get (λ s. nest_write_at p v (reached s.memory p t)))
 
-  nest_move_by : (p : Value) (by : ℤ) → Nests (acc.move_by resting here p by)
+  pub nest_move_by : (p : Value) (by : ℤ) → Nests (acc.move_by resting here p by)
   nest_move_by p by = nest_bind nest_get (λ s. nest_checked (moved p (room_at s.memory p) by))
 
-  nest_address_of : (l : Lvalue) → Nests (acc.address_of resting l)
+  pub nest_address_of : (l : Lvalue) → Nests (acc.address_of resting l)
   nest_address_of (InRegister i) = nest_stop (Fault fault.Invalid)
   nest_address_of (At p) = nest_pure p
 
-  nest_object_after : (l : Lvalue) (by : ℤ) → Nests (acc.object_after resting here l by)
+  pub nest_object_after : (l : Lvalue) (by : ℤ) → Nests (acc.object_after resting here l by)
   nest_object_after l by = nest_bind (nest_address_of l) (λ p. nest_bind (nest_move_by p by) (λ q. nest_pure (At q)))
 
-  nest_int : (c : Result ℤ RunFault) → Nests (acc.as_int resting (acc.checked resting here c))
+  pub nest_int : (c : Result ℤ RunFault) → Nests (acc.as_int resting (acc.checked resting here c))
   nest_int c = nest_bind (nest_checked c) (λ z. nest_pure (value.Int z))
 
-  nest_truth : (c : Result Bool RunFault) → Nests (acc.as_truth resting (acc.checked resting here c))
+  pub nest_truth : (c : Result Bool RunFault) → Nests (acc.as_truth resting (acc.checked resting here c))
   nest_truth c = nest_bind (nest_checked c) (λ b. nest_pure (of_truth b))
 
-  nest_move_elements : (side : Side) (size : ℕ) (a b : Value) → Nests (acc.move_elements resting here side size a b)
+  pub nest_move_elements : (side : Side) (size : ℕ) (a b : Value) → Nests (acc.move_elements resting here side size a b)
   nest_move_elements PointerFirst size a b = nest_move_by a _
   nest_move_elements PointerLast size a b = nest_move_by b _
   nest_move_elements Minus size a b = nest_move_by a _
 
-  nest_updated : (t : CType) (o : UpdateOp) (old v : Value) → Nests (acc.updated resting here t o old v)
+  pub nest_updated : (t : CType) (o : UpdateOp) (old v : Value) → Nests (acc.updated resting here t o old v)
   nest_updated t (Integer o k) old v = nest_bind {A = ℤ} (nest_bind {A = ℤ} (nest_checked _) (λ z. nest_pure (converted_to k t z))) (λ z. nest_pure (value.Int z))
   nest_updated t (Forward size) old v = nest_move_by old _
   nest_updated t (Backward size) old v = nest_move_by old _
 
-  nest_next_byte : (bs : List ℕ) → Nests (acc.next_byte resting here bs)
+  pub nest_next_byte : (bs : List ℕ) → Nests (acc.next_byte resting here bs)
   nest_next_byte [] = nest_pure _
   nest_next_byte (b ∷ bs) = nest_then (nest_put_input bs) (nest_pure _)
 
-  nest_get_char : Nests (acc.get_char resting here)
+  pub nest_get_char : Nests (acc.get_char resting here)
   nest_get_char = nest_then (nest_emit act.Input tt) (nest_bind nest_get (λ s. nest_next_byte s.input))
 
-  nest_put_char : (v : Value) → Nests (acc.put_char resting here v)
+  pub nest_put_char : (v : Value) → Nests (acc.put_char resting here v)
   nest_put_char v = nest_then (nest_emit (act.Output (low_bits 8 (integer v))) tt) (nest_pure _)
 
-  nest_allocate_block : (count : ℕ) (b : Option Block) → Nests (al.allocate_block resting here count b)
+  pub nest_allocate_block : (count : ℕ) (b : Option Block) → Nests (al.allocate_block resting here count b)
   nest_allocate_block count None = nest_then (nest_emit (act.Malloc count value.Null 0) tt) (nest_pure value.Null)
   nest_allocate_block count (Some b) = record {
     by = λ rest h s r m. inner_step (act.Malloc count (block_pointer s.allocated) (length b)) tt s _ m (h (block_pointer s.allocated) (record s { memory = with_block s.allocated b s.memory; allocated = suc s.allocated }) r m);
   }
 
-  nest_allocate : (ls : List Layout) (t : CType) (v : Value) → Nests (al.allocate resting here ls t v)
+  pub nest_allocate : (ls : List Layout) (t : CType) (v : Value) → Nests (al.allocate resting here ls t v)
   nest_allocate ls t v = nest_allocate_block (low_bits 64 (integer v)) (block_for ls t (low_bits 64 (integer v)))
 
-  nest_release : (p : Value) → Nests (al.release resting here p)
+  pub nest_release : (p : Value) → Nests (al.release resting here p)
   nest_release p = nest_then (nest_emit (act.Free p) tt) (record { by = λ rest h s r m. on (freed s.memory p) rest h s r (freed_shapes s.memory p) m })
     where
       on : (x : Option Memory) (rest : Value → State → Registers → Trace) → ((a : Value) (s : State) (r : Registers) → Opens q (here ∷ outer) s → Nest q (here ∷ outer) s.made (steps (rest a s r))) → (s : State) (r : Registers) → WhereSome (λ x. frame_shapes x ≡ frame_shapes s.memory) x → Opens q (here ∷ outer) s → Nest q (here ∷ outer) s.made (steps (al.release_to resting here x rest s r))
       on None rest h s r e m = (nest_halt fault.BadFree).by rest h s r m
       on (Some x) rest h s r e m = h (value.Int (pos 0)) (record s { memory = x }) r (e ∙ m)
 
-  nest_ghost_code : (ls : List Layout) (g : GhostStmt) → Nests (sm.ghost_code resting ls here g)
+  pub nest_ghost_code : (ls : List Layout) (g : GhostStmt) → Nests (sm.ghost_code resting ls here g)
   nest_ghost_code ls g = nest_bind nest_get (λ s. nest_bind nest_registers (λ r. nest_put_ghosts _))
 
-  nest_assertion : (ls : List Layout) (v : VerdictKind) (k : ℕ) (r : Predicate) → Nests (sm.assertion resting ls here v k r)
+  pub nest_assertion : (ls : List Layout) (v : VerdictKind) (k : ℕ) (r : Predicate) → Nests (sm.assertion resting ls here v k r)
   nest_assertion ls v k p = nest_bind nest_get (λ s. nest_bind nest_registers (λ r. nest_judge k v _))
 
   -- ---- expressions
 
   module _ (ls : List Layout) (call : ℕ → List Value → RestingCall) (h : (g : ℕ) (vs : List Value) → CallNests q (here ∷ outer) (call g vs)) where
     mutual
-      nest_eval : (e : Expr) → Nests (ex.eval resting ls call here e)
+      pub nest_eval : (e : Expr) → Nests (ex.eval resting ls call here e)
       nest_eval (Literal k z) = nest_pure _
       nest_eval Null = nest_pure _
       nest_eval (Load p t) = nest_bind (nest_place p) (nest_load t)
@@ -278,58 +278,58 @@ module _ (q : Core) (here : Here) (outer : List Here) (is : (f : Function) × Is
       nest_eval (Free' b (more_of-Expr e end_of-Expr)) = nest_bind (nest_eval e) nest_release
       nest_eval (Discard' b (more_of-Expr e end_of-Expr)) = nest_then (nest_eval e) (nest_pure _)
 
-      nest_place : (p : Place_) → Nests (ex.place resting ls call here p)
+      pub nest_place : (p : Place_) → Nests (ex.place resting ls call here p)
       nest_place (Own v) = nest_pure _
       nest_place (Deref' b (more_of-Expr e end_of-Expr)) = nest_bind (nest_eval e) (λ a. nest_pure _)
       nest_place (Member' b (more_of-Place_ p end_of-Place_) o) = nest_bind (nest_place p) (λ l. nest_object_after l _)
       nest_place (Index' b (more_of-Place_ p end_of-Place_) c (more_of-Expr e end_of-Expr) size) = nest_bind (nest_place p) (λ l. nest_bind (nest_eval e) (λ i. nest_object_after l _))
 
-      nest_all : {k : _} (e : Row_of-Expr k) → Nests (ex.all resting ls call here e)
+      pub nest_all : {k : _} (e : Row_of-Expr k) → Nests (ex.all resting ls call here e)
       nest_all end_of-Expr = nest_pure _
       nest_all (more_of-Expr e more) = nest_bind (nest_eval e) (λ v. nest_bind (nest_all more) (λ vs. nest_pure _))
 
   -- ---- statements
 
-  nest_on_next : {d : Resting Completion} → Nests d → (l : Completion) → Nests (sm.on_next resting d l)
+  pub nest_on_next : {d : Resting Completion} → Nests d → (l : Completion) → Nests (sm.on_next resting d l)
   nest_on_next a Next = a
   nest_on_next a Broken = nest_pure _
   nest_on_next a Continued = nest_pure _
   nest_on_next a (Returned v) = nest_pure _
 
-  nest_at_end : {d : Resting Completion} → Nests d → (l : Completion) → Nests (sm.at_turn_end resting d l)
+  pub nest_at_end : {d : Resting Completion} → Nests d → (l : Completion) → Nests (sm.at_turn_end resting d l)
   nest_at_end a Next = a
   nest_at_end a Broken = nest_pure _
   nest_at_end a Continued = a
   nest_at_end a (Returned v) = nest_pure _
 
-  nest_after_turn : {d : Resting Completion} → Nests d → (l : Completion) → Nests (sm.after_turn resting d l)
+  pub nest_after_turn : {d : Resting Completion} → Nests d → (l : Completion) → Nests (sm.after_turn resting d l)
   nest_after_turn a Next = a
   nest_after_turn a Continued = a
   nest_after_turn a Broken = nest_pure _
   nest_after_turn a (Returned v) = nest_pure _
 
-  nest_turns : {d : Resting Completion} → Nests d → (k : ℕ) → Nests (sm.turns resting here d k)
+  pub nest_turns : {d : Resting Completion} → Nests d → (k : ℕ) → Nests (sm.turns resting here d k)
   nest_turns x zero = nest_stop More
   nest_turns x (suc k) = nest_then (nest_emit act.Turn tt) (nest_bind x (nest_after_turn (nest_turns x k)))
 
   module _ (ls : List Layout) (call : ℕ → List Value → RestingCall) (h : (g : ℕ) (vs : List Value) → CallNests q (here ∷ outer) (call g vs)) (k : ℕ) where
-    nest_value : (e : Expr) → Nests (ex.eval resting ls call here e)
+    pub nest_value : (e : Expr) → Nests (ex.eval resting ls call here e)
     nest_value = nest_eval ls call h
 
-    nest_when : (o : Option Expr) {d : Resting Completion} → Nests d → Nests (sm.when_test resting (option_map (ex.eval resting ls call here) o) d)
+    pub nest_when : (o : Option Expr) {d : Resting Completion} → Nests d → Nests (sm.when_test resting (option_map (ex.eval resting ls call here) o) d)
     nest_when None a = a
     nest_when (Some e) a = nest_bind (nest_value e) (λ v. nest_cond (truth v) a (nest_pure Broken))
 
-    nest_step_of : (o : Option Expr) → Nests (sm.loop_step resting (option_map (ex.eval resting ls call here) o))
+    pub nest_step_of : (o : Option Expr) → Nests (sm.loop_step resting (option_map (ex.eval resting ls call here) o))
     nest_step_of None = nest_pure Next
     nest_step_of (Some e) = nest_bind (nest_value e) (λ v. nest_pure Next)
 
-    nest_return : (o : Option Expr) → Nests (sm.exec_return resting ls call here k o)
+    pub nest_return : (o : Option Expr) → Nests (sm.exec_return resting ls call here k o)
     nest_return None = nest_pure _
     nest_return (Some e) = nest_bind (nest_value e) (λ v. nest_pure _)
 
     mutual
-      nest_exec : (s : Stmt) → Nests (sm.exec resting ls call here k s)
+      pub nest_exec : (s : Stmt) → Nests (sm.exec resting ls call here k s)
       nest_exec st.Empty = nest_pure _
       nest_exec (st.Eval e) = nest_then (nest_value e) (nest_pure _)
       nest_exec (st.Init v o t e) = nest_bind (nest_value e) (λ w. nest_then (nest_store t (designated here.activation v o) w) (nest_pure Next))
@@ -344,28 +344,28 @@ module _ (q : Core) (here : Here) (outer : List Here) (is : (f : Function) × Is
       nest_exec (st.Ghost g) = nest_then (nest_ghost_code ls g) (nest_pure _)
       nest_exec (st.Assert v j r) = nest_then (nest_assertion ls v j r) (nest_pure _)
 
-      nest_row : {j : _} (ss : Row_of-Stmt j) → Nests (sm.exec_row resting ls call here k ss)
+      pub nest_row : {j : _} (ss : Row_of-Stmt j) → Nests (sm.exec_row resting ls call here k ss)
       nest_row end_of-Stmt = nest_pure _
       nest_row (more_of-Stmt s more) = nest_bind (nest_exec s) (nest_on_next (nest_row more))
 
-    nest_exec_all : (ss : List Stmt) → Nests (sm.exec_all resting ls call here k ss)
+    pub nest_exec_all : (ss : List Stmt) → Nests (sm.exec_all resting ls call here k ss)
     nest_exec_all [] = nest_pure _
     nest_exec_all (s ∷ ss) = nest_bind (nest_exec s) (nest_on_next (nest_exec_all ss))
 
   -- ---- what is given back
 
-  nest_returned : (t : CType) (v : Option Value) → Nests (ca.returned resting t v)
+  pub nest_returned : (t : CType) (v : Option Value) → Nests (ca.returned resting t v)
   nest_returned type.Void None = nest_pure None
   nest_returned type.Void (Some v) = nest_stop _
   nest_returned _ None = nest_stop _
   nest_returned _ (Some v) = nest_pure (Some v)
 
-  nest_fallen_off : (b : Bool) (t : CType) → Nests (ca.fallen_off resting here b t)
+  pub nest_fallen_off : (b : Bool) (t : CType) → Nests (ca.fallen_off resting here b t)
   nest_fallen_off true t = nest_pure _
   nest_fallen_off false type.Void = nest_pure _
   nest_fallen_off false _ = nest_halt _
 
-  nest_given : (b : Bool) (t : CType) (l : Completion) → Nests (ca.given_back resting here b t l)
+  pub nest_given : (b : Bool) (t : CType) (l : Completion) → Nests (ca.given_back resting here b t l)
   nest_given b t (Returned v) = nest_returned t v
   nest_given b t Next = nest_fallen_off b t
   nest_given b t Broken = nest_stop _
@@ -388,7 +388,7 @@ module _ (q : Core) (bound : ℕ) where
   abbrev AllNest : (ℕ → List Value → RestingCall) → Type 0
   AllNest call = (h : Here) (hs : List Here) (g : ℕ) (vs : List Value) → CallNests q (h ∷ hs) (call g vs)
 
-  nest_activation : (call : ℕ → List Value → RestingCall) → AllNest call → (hs : List Here) (g : ℕ) (f : Function) → slice_get q.functions g ≡ Some f → IsTrue (has_body f) → (body : List Stmt) (vs : List Value) → CallNests q hs (resting.alone (unset_registers f.registers) (ca.activation resting q bound call g f body vs))
+  pub nest_activation : (call : ℕ → List Value → RestingCall) → AllNest call → (hs : List Here) (g : ℕ) (f : Function) → slice_get q.functions g ≡ Some f → IsTrue (has_body f) → (body : List Stmt) (vs : List Value) → CallNests q hs (resting.alone (unset_registers f.registers) (ca.activation resting q bound call g f body vs))
   nest_activation call calls hs g f found has body vs = record { by = opened }
     where
       opened : (rest : Value → State → Trace) → ((v : Value) (s : State) → Opens q hs s → Nest q hs s.made (steps (rest v s))) → (s : State) → Opens q hs s → (hs ≡ [] → s.made ≡ 0) → Nest q hs s.made (steps (resting.alone (unset_registers f.registers) (ca.activation resting q bound call g f body vs) rest s))
@@ -430,15 +430,15 @@ module _ (q : Core) (bound : ℕ) where
               opens : frame_shapes t.memory ≡ shapes q (here ∷ hs)
               opens = ap (λ x. frame_shapes x) e ∙ (ap (λ ss. shape_of (first_frame q.layouts f s.made vs) ∷ ss) m ∙ ap (λ (ts : List (List CType)). record { activation = s.made; cells = ts } ∷ shapes q hs) own)
 
-  nest_body : (call : ℕ → List Value → RestingCall) → AllNest call → (hs : List Here) (g : ℕ) (f : Function) → slice_get q.functions g ≡ Some f → (body : Option (List Stmt)) → f.body ≡ body → (vs : List Value) → CallNests q hs (ca.call_body resting q bound call g f body vs)
+  pub nest_body : (call : ℕ → List Value → RestingCall) → AllNest call → (hs : List Here) (g : ℕ) (f : Function) → slice_get q.functions g ≡ Some f → (body : Option (List Stmt)) → f.body ≡ body → (vs : List Value) → CallNests q hs (ca.call_body resting q bound call g f body vs)
   nest_body call calls hs g f found None e vs = record { by = λ rest h s m first. tt }
   nest_body call calls hs g f found (Some body) e vs = nest_activation call calls hs g f found (subst (λ o. IsTrue (is_some o)) (sym e) refl) body vs
 
-  nest_call_of : (call : ℕ → List Value → RestingCall) → AllNest call → (hs : List Here) (g : ℕ) (f : Option Function) → slice_get q.functions g ≡ f → (vs : List Value) → CallNests q hs (ca.call_of resting q bound call g f vs)
+  pub nest_call_of : (call : ℕ → List Value → RestingCall) → AllNest call → (hs : List Here) (g : ℕ) (f : Option Function) → slice_get q.functions g ≡ f → (vs : List Value) → CallNests q hs (ca.call_of resting q bound call g f vs)
   nest_call_of call calls hs g None found vs = record { by = λ rest h s m first. tt }
   nest_call_of call calls hs g (Some f) found vs = nest_body call calls hs g f found f.body refl vs
 
-  nest_calls : (n : ℕ) (hs : List Here) (g : ℕ) (vs : List Value) → CallNests q hs (ca.calls resting q bound n g vs)
+  pub nest_calls : (n : ℕ) (hs : List Here) (g : ℕ) (vs : List Value) → CallNests q hs (ca.calls resting q bound n g vs)
   nest_calls zero hs g vs = record { by = λ rest h s m first. tt }
   nest_calls (suc n) hs g vs = nest_call_of (ca.calls resting q bound n) (λ h hs g vs. nest_calls n (h ∷ hs) g vs) hs g (slice_get q.functions g) refl vs
 

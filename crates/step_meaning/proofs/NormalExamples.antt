@@ -1,6 +1,6 @@
 -- Statements in normal form and others, sizes of small trees, and a small program that is printable.
 use Rattle.std.proofs.Common.{◌≡◌, ℕ, zero, suc, true, false, refl, [], ◌∷◌, Some}
-use Rattle.std.specs.Prelude.{codes}
+use Rattle.std.specs.Prelude.{pos, codes, IsTrue}
 use Rattle.step_meaning.specs.declared.value.IntKind.TheVariants as kind
 use Rattle.step_meaning.specs.declared.value.NameKind.TheVariants as names
 use Rattle.step_meaning.specs.declared.expr.IntOp.TheVariants as op
@@ -16,7 +16,7 @@ use Rattle.step_meaning.specs.ExpressionTypes.{pointer_to}
 use Rattle.step_meaning.specs.Identifiers.{keywords, is_keyword}
 use Rattle.step_meaning.specs.WellFormed.{IsWellFormed, IsWellFormedFunction}
 use Rattle.step_meaning.specs.Sizes.{nodes, depth, nesting}
-use Rattle.step_meaning.specs.Normal.{is_normal, ends_with_return, are_normal_functions}
+use Rattle.step_meaning.specs.Normal.{is_normal, ends_with_return, are_normal_functions, IsNormal}
 use Rattle.step_meaning.specs.Printable.{IsPrintable, is_small, is_small_statement}
 use Rattle.step_meaning.proofs.Examples.{int, lit, global, local, load, deref, index, assign, binary, return, zero_cell}
 use Rattle.step_meaning.proofs.WellFormedExamples.{named, getchar, putchar, malloc, free, adding}
@@ -112,6 +112,10 @@ if_access = refl
 while_one : is_normal (s.While' (lit 1) tt (more_of-Stmt s.Break end_of-Stmt)) ≡ true
 while_one = refl
 
+-- while (1U) ;
+while_unsigned : is_normal (s.While' (e.Literal kind.UInt (pos 1)) tt (more_of-Stmt s.Break end_of-Stmt)) ≡ false
+while_unsigned = refl
+
 while_register : is_normal (s.While' r tt (more_of-Stmt s.Break end_of-Stmt)) ≡ false
 while_register = refl
 
@@ -153,6 +157,22 @@ deepest = refl
 too_deep : is_small (nots 64) ≡ false
 too_deep = refl
 
+-- sums whose operands are alike: the n-th has 2 ^ (n + 1) - 1 nodes; and n times ! before an expression
+abbrev doubled : ℕ → Expr
+doubled zero = lit 1
+doubled (suc n) = binary op.Add kind.Int (doubled n) (doubled n)
+
+abbrev negated : ℕ → Expr → Expr
+negated zero a = a
+negated (suc n) a = e.Not' tt (more_of-Expr (negated n a) end_of-Expr)
+
+-- 1,023 nodes, 127, the sum, and 49
+most_nodes : is_small (negated 49 (binary op.Add kind.Int (doubled 9) (doubled 6))) ≡ true
+most_nodes = refl
+
+too_many_nodes : is_small (negated 50 (binary op.Add kind.Int (doubled 9) (doubled 6))) ≡ false
+too_many_nodes = refl
+
 abbrev blocks : ℕ → Stmt
 blocks zero = s.Empty
 blocks (suc n) = s.Block' (tt ∷ []) (more_of-Stmt (blocks n) end_of-Stmt)
@@ -176,7 +196,7 @@ main = record {
   body = Some (s.Empty ∷ takes (register 0) (load (global 0)) ∷ takes (register 0) (binary op.Add kind.Int r (lit 1)) ∷ takes (global 0) r ∷ return r ∷ []);
 }
 
-abbrev counting : Core
+abbrev pub counting : Core
 counting = record adding { layouts = []; globals = named (codes "x") int ∷ []; initial = zero_cell ∷ []; functions = getchar ∷ putchar ∷ malloc ∷ free ∷ main ∷ []; start = 4 }
 
 getchar_fits : IsWellFormedFunction counting getchar
@@ -221,3 +241,13 @@ early_return = refl
 -- a function with a value, other than `main`, may end without one
 falling_off : are_normal_functions counting 5 (record main { body = Some (s.Empty ∷ []) } ∷ []) ≡ true
 falling_off = refl
+
+normal : IsNormal counting
+normal = refl
+
+-- `main` without a `return`
+not_normal : IsNormal (record counting { functions = getchar ∷ putchar ∷ malloc ∷ free ∷ record main { body = Some (s.Empty ∷ []) } ∷ [] }) → ⊥
+not_normal h = refuted h
+  where
+    refuted : IsTrue false → ⊥
+    refuted h = cc

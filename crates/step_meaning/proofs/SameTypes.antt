@@ -1,13 +1,14 @@
 -- Types that are the same are equal.
-use Rattle.std.proofs.Common.{◌≡◌, ℕ, zero, suc, Bool, true, false, ◌&&◌, refl, sym, ap, ◌∙◌, List, [], ◌∷◌, Some}
+use Rattle.std.proofs.Common.{◌≡◌, ℕ, Bool, true, false, refl, sym, ap, ◌∙◌, List, [], ◌∷◌, Some}
 use Rattle.std.specs.Prelude.{◌==◌, slice_get}
 use Rattle.std.proofs.lemmas.Bool.{eqb-true}
+use Rattle.std.proofs.Math.Dec.{eqb_refl, T}
 use Rattle.step_meaning.specs.declared.value.IntKind.{IntKind}
 use Rattle.step_meaning.specs.declared.value.IntKind.TheVariants as kind
 use Rattle.step_meaning.specs.declared.value.CType.{CType, end_of-CType, more_of-CType}
 use Rattle.step_meaning.specs.declared.value.CType.TheVariants.{Void, Int, Pointer', Array', Struct}
 use Rattle.step_meaning.specs.Types.{kind_number, same_type}
-use Rattle.step_meaning.proofs.Ranges.{left_of_and, right_of_and, false_is_not_true}
+use Rattle.step_meaning.proofs.Ranges.{and_true, left_of_and, right_of_and, false_is_not_true}
 
 -- ---- kinds
 
@@ -42,3 +43,17 @@ same_type_equal (Array' p (more_of-CType t end_of-CType) n) (Array' r (more_of-C
     ap (λ t. Array' p (more_of-CType t end_of-CType) n) (same_type_equal t u (right_of_and (n == m) (same_type t u) e)) ∙ ap (λ n. Array' p (more_of-CType u end_of-CType) n) (eqb-true n m (left_of_and (n == m) (same_type t u) e))
 same_type_equal (Struct n) (Struct m) e = ap Struct (eqb-true n m e)
 same_type_equal _ _ e = false_is_not_true e
+
+pub number_same : (n : ℕ) → (n == n) ≡ true
+number_same n = told (n == n) (eqb_refl n)
+  where
+    told : (b : Bool) → T b → b ≡ true
+    told true h = refl
+    told false h = absurd h
+
+pub same_itself : (t : CType) → same_type t t ≡ true
+same_itself Void = refl
+same_itself (Int k) = number_same (kind_number k)
+same_itself (Pointer' b (more_of-CType t end_of-CType)) = same_itself t
+same_itself (Array' b (more_of-CType t end_of-CType) n) = and_true (number_same n) (same_itself t)
+same_itself (Struct n) = number_same n

@@ -1,5 +1,5 @@
 -- The steps of a program are a traced list, and so is a list that no run makes. Lists that break a point of the definition aren't traced.
-use Rattle.std.proofs.Common.{◌≡◌, ◌≢◌, ℕ, zero, suc, ◌+◌, ◌≤◌, Bool, true, false, map, List, [], ◌∷◌, Option, Some, None, refl, sym, ap, subst, ◌∙◌, arith}
+use Rattle.std.proofs.Common.{◌≡◌, ◌≢◌, ℕ, zero, suc, ◌+◌, ◌≤◌, Bool, true, false, map, List, [], ◌∷◌, Option, Some, None, refl, sym, ap, subst, ◌∙◌, arith, lit<}
 use Rattle.std.specs.Prelude.{IsTrue, All, AllPairs, pos, option_map}
 use Rattle.std.proofs.lemmas.List.Elements.{All-nil, All-cons, All-from_recursion}
 use Rattle.std.proofs.lemmas.List.Kept.{AllPairs-cons}
@@ -12,7 +12,7 @@ use Rattle.step_meaning.specs.declared.value.Cell.TheVariants.{Nothing, Holds}
 use Rattle.step_meaning.specs.declared.value.Action.TheVariants as act
 use Rattle.step_meaning.specs.declared.program.Core.{Core}
 use Rattle.step_meaning.specs.declared.program.Function.{Function}
-use Rattle.step_meaning.specs.Memory.{Memory, Frame, frame_of, block}
+use Rattle.step_meaning.specs.Memory.{Memory, Frame, HeapBlock, frame_of, block}
 use Rattle.step_meaning.specs.Steps.{Step, steps}
 use Rattle.step_meaning.specs.Runs.{run}
 use Rattle.step_meaning.specs.Limits.{is_enter}
@@ -246,3 +246,22 @@ parameter_retyped has = other_type (frame_cells (record { globals = []; frames =
         first_is_int : List (List CType) → Bool
         first_is_int ((type.Int k ∷ ts) ∷ tss) = true
         first_is_int _ = false
+
+-- ---- heap blocks in a memory: one a number, whose cells hold values of their types
+
+abbrev block_with : Cell → HeapBlock
+block_with c = record { number = 3; cells = record { declared = int; cell = c } ∷ [] }
+
+one_number_twice : IsProgramMemory empty_main (record open_memory { heap = block_with seven ∷ block_with Nothing ∷ [] }) → ⊥
+one_number_twice h = h.one_block_each 0 1 (block_with seven) (lit< tt) (lit< tt) refl
+
+pointer_in_int : IsProgramMemory empty_main (record open_memory { heap = block_with (Holds value.Null) ∷ [] }) → ⊥
+pointer_in_int h = (h.heap_typed 0 (block_with seven) (lit< tt) 0 (record { declared = int; cell = seven }) (lit< tt)).0
+
+-- a `free` at an integer is none
+freed_integer : IsStepOf empty_main (record { action = act.Free (value.Int (pos 0)); function = 4; activation = 0; memory = open_memory }) → ⊥
+freed_integer h = h.accesses
+
+-- and `malloc` gives no pointer to a register
+register_allocated : IsStepOf empty_main (record { action = act.Malloc 1 (value.Pointer (record { kind = names.Register; activation = 0; index = 0 }) 0) 1; function = 4; activation = 0; memory = open_memory }) → ⊥
+register_allocated h = true_is_not_false h.pointers

@@ -33,7 +33,7 @@ use Rattle.step_meaning.specs.Allowances.{Allowed, type_of_parameter, type_of_re
 use Rattle.step_meaning.specs.FitsBounded.{IsTypedSight, AllowsOwnTypes, TracedSightsTyped}
 use Rattle.step_meaning.proofs.ValuesInside.{some_is, none_is, some_of_bind, some_of_map, by_cases}
 
-element_of_all : {A : Type 0} (P : A → Type 0) (xs : List A) (i : ℕ) (x : A) → All P xs → slice_get xs i ≡ Some x → P x
+pub element_of_all : {A : Type 0} (P : A → Type 0) (xs : List A) (i : ℕ) (x : A) → All P xs → slice_get xs i ≡ Some x → P x
 element_of_all P [] i x h e = none_is x e
 element_of_all P (y ∷ xs) zero x h e = subst P (some_is y x e) (All-head P y xs h)
 element_of_all P (y ∷ xs) (suc i) x h e = element_of_all P xs i x (All-tail P y xs h) e
@@ -65,10 +65,10 @@ kind_back kind.UInt = refl
 kind_back kind.Long = refl
 kind_back kind.ULong = refl
 
-same_kind_number : (k l : IntKind) → (kind_number k == kind_number l) ≡ true → k ≡ l
+pub same_kind_number : (k l : IntKind) → (kind_number k == kind_number l) ≡ true → k ≡ l
 same_kind_number k l e = sym (kind_back k) ∙ ap kind_at (eqb-true (kind_number k) (kind_number l) e) ∙ kind_back l
 
-retyped : (u w : CType) (v : Value) → same_type u w ≡ true → HasType u v → HasType w v
+pub retyped : (u w : CType) (v : Value) → same_type u w ≡ true → HasType u v → HasType w v
 retyped type.Void w v e h = absurd h
 retyped (type.Array' b t n) w v e h = absurd h
 retyped (type.Struct n) w v e h = absurd h
@@ -93,7 +93,7 @@ retyped (type.Pointer' b (more_of-CType t end_of-CType)) (type.Struct m) (value.
 
 -- ---- reads
 
-slot_read : (o : Option Slot) (w : CType) (v : Value) → ((x : Slot) → o ≡ Some x → SlotTyped x) → typed o w ≡ Some (Holds v) → HasType w v
+pub slot_read : (o : Option Slot) (w : CType) (v : Value) → ((x : Slot) → o ≡ Some x → SlotTyped x) → typed o w ≡ Some (Holds v) → HasType w v
 slot_read None w v h e = none_is (Holds v) e
 slot_read (Some x) w v h e = by (same_type x.declared w) refl e
   where
@@ -101,25 +101,25 @@ slot_read (Some x) w v h e = by (same_type x.declared w) refl e
     by true s f = retyped x.declared w v s (subst (CellHasType x.declared) (some_is x.cell (Holds v) f) (h x refl)).0
     by false s f = none_is (Holds v) f
 
-block_read : (b : Option Block) (o : ℕ) (w : CType) (v : Value) → ((x : Block) → b ≡ Some x → All SlotTyped x) → typed (slot_at b o) w ≡ Some (Holds v) → HasType w v
+pub block_read : (b : Option Block) (o : ℕ) (w : CType) (v : Value) → ((x : Block) → b ≡ Some x → All SlotTyped x) → typed (slot_at b o) w ≡ Some (Holds v) → HasType w v
 block_read b o w v h e = slot_read (slot_at b o) w v (λ x f. let m = some_of_bind (λ b. slice_get b o) b x f in element_of_all SlotTyped m.0 o x (h m.0 m.1) m.2) e
 
 -- ---- memories
 
-record MemoryTyped (memory : Memory) : Type 0 where
-  globals : BlocksTyped memory.globals
-  locals : All (λ f. BlocksTyped f.locals) memory.frames
-  heap : All (λ b. All SlotTyped b.cells) memory.heap
+pub record MemoryTyped (memory : Memory) : Type 0 where
+  pub globals : BlocksTyped memory.globals
+  pub locals : All (λ f. BlocksTyped f.locals) memory.frames
+  pub heap : All (λ b. All SlotTyped b.cells) memory.heap
 
-file_typed : (memory : Memory) (a i : ℕ) (b : Block) → MemoryTyped memory → file_block memory a i ≡ Some b → All SlotTyped b
+pub file_typed : (memory : Memory) (a i : ℕ) (b : Block) → MemoryTyped memory → file_block memory a i ≡ Some b → All SlotTyped b
 file_typed memory zero i b h e = element_of_all (All SlotTyped) memory.globals i b h.globals e
 file_typed memory (suc a) i b h e = none_is b e
 
-frame_of_all : (P : Frame → Type 0) (fs : List Frame) (a : ℕ) (f : Frame) → All P fs → frame_of a fs ≡ Some f → P f
+pub frame_of_all : (P : Frame → Type 0) (fs : List Frame) (a : ℕ) (f : Frame) → All P fs → frame_of a fs ≡ Some f → P f
 frame_of_all P [] a f h e = none_is f e
 frame_of_all P (x ∷ fs) a f h e = by_cases (Some x) (frame_of a fs) f (P f) (x.activation == a) (λ e. subst P (some_is x f e) (All-head P x fs h)) (frame_of_all P fs a f (All-tail P x fs h)) e
 
-frame_typed : (memory : Memory) (a i : ℕ) (b : Block) → MemoryTyped memory → frame_block memory a i ≡ Some b → All SlotTyped b
+pub frame_typed : (memory : Memory) (a i : ℕ) (b : Block) → MemoryTyped memory → frame_block memory a i ≡ Some b → All SlotTyped b
 frame_typed memory a i b h e =
     let m = some_of_bind (λ f. slice_get f.locals i) (frame_of a memory.frames) b e in
     element_of_all (All SlotTyped) m.0.locals i b (frame_of_all (λ f. BlocksTyped f.locals) memory.frames a m.0 h.locals m.1) m.2
@@ -128,11 +128,11 @@ block_of_all : (P : HeapBlock → Type 0) (bs : List HeapBlock) (n : ℕ) (c : B
 block_of_all P [] n c h e = none_is c e
 block_of_all P (b ∷ bs) n c h e = by_cases (Some b.cells) (block_of n bs) c ((b : HeapBlock) × (b.cells ≡ c) × P b) (b.number == n) (λ e. (b, some_is b.cells c e, All-head P b bs h)) (block_of_all P bs n c (All-tail P b bs h)) e
 
-heap_typed : (memory : Memory) (n i : ℕ) (b : Block) → MemoryTyped memory → heap_block memory n i ≡ Some b → All SlotTyped b
+pub heap_typed : (memory : Memory) (n i : ℕ) (b : Block) → MemoryTyped memory → heap_block memory n i ≡ Some b → All SlotTyped b
 heap_typed memory n zero b h e = let m = block_of_all (λ b. All SlotTyped b.cells) memory.heap n b h.heap e in subst (λ c. All SlotTyped c) m.1 m.2
 heap_typed memory n (suc i) b h e = none_is b e
 
-block_typed : (memory : Memory) (k : NameKind) (a i : ℕ) (b : Block) → MemoryTyped memory → block_in memory k a i ≡ Some b → All SlotTyped b
+pub block_typed : (memory : Memory) (k : NameKind) (a i : ℕ) (b : Block) → MemoryTyped memory → block_in memory k a i ≡ Some b → All SlotTyped b
 block_typed memory names.Global a i b h e = file_typed memory a i b h e
 block_typed memory names.Local a i b h e = frame_typed memory a i b h e
 block_typed memory names.Heap a i b h e = heap_typed memory a i b h e
@@ -140,17 +140,17 @@ block_typed memory names.Register a i b h e = none_is b e
 block_typed memory names.GhostGlobal a i b h e = none_is b e
 block_typed memory names.GhostLocal a i b h e = none_is b e
 
-none_typed : MemoryTyped no_memory
+pub none_typed : MemoryTyped no_memory
 none_typed = record { globals = All-nil (All SlotTyped); locals = All-nil (λ f. BlocksTyped f.locals); heap = All-nil (λ b. All SlotTyped b.cells) }
 
-step_typed : (q : Core) (s : Step) → IsStepOf q s → MemoryTyped s.memory
+pub step_typed : (q : Core) (s : Step) → IsStepOf q s → MemoryTyped s.memory
 step_typed q s h = record { globals = h.memory.globals_typed; locals = h.memory.locals_typed; heap = h.memory.heap_typed }
 
 either_typed : (b : Bool) (m n : Memory) → MemoryTyped m → MemoryTyped n → MemoryTyped (cond b m n)
 either_typed true m n h k = h
 either_typed false m n h k = k
 
-enter_typed : (ss : List Step) (a : ℕ) → ((i : ℕ) (s : Step) → At ss i s → MemoryTyped s.memory) → MemoryTyped (enter_memory ss a)
+pub enter_typed : (ss : List Step) (a : ℕ) → ((i : ℕ) (s : Step) → At ss i s → MemoryTyped s.memory) → MemoryTyped (enter_memory ss a)
 enter_typed [] a h = none_typed
 enter_typed (s ∷ ss) a h = either_typed (is_enter s.action && s.activation == a) s.memory (enter_memory ss a) (h zero s refl) (enter_typed ss a (λ i t. h (suc i) t))
 
@@ -235,7 +235,7 @@ module _ (q : Core) (ss : List Step) (traced : IsTraced q ss) (s : Step) (step :
   visible_typed names.GhostGlobal n b e = file_typed no_memory n.activation n.index b none_typed e
   visible_typed names.GhostLocal n b e = frame_typed no_memory n.activation n.index b none_typed e
 
-  view_typed : (g : Setting) (a : Allowed) → q.layouts ≡ g.layouts → AllowsOwnTypes q a → IsTypedSight g a (sight_of q ss s)
+  pub view_typed : (g : Setting) (a : Allowed) → q.layouts ≡ g.layouts → AllowsOwnTypes q a → IsTypedSight g a (sight_of q ss s)
   view_typed g a same own =
       record {
         layouts = same;

@@ -13,6 +13,8 @@ use Rattle.step_meaning.specs.declared.predicate.Term.TheVariants as t
 use Rattle.step_meaning.specs.declared.predicate.TermPlace.{TermPlace, end_of-TermPlace, more_of-TermPlace}
 use Rattle.step_meaning.specs.declared.predicate.TermPlace.TheVariants as p
 use Rattle.step_meaning.specs.declared.predicate.Location.{Location}
+use Rattle.step_meaning.specs.declared.predicate.EventKind.TheVariants as kind_of
+use Rattle.step_meaning.specs.declared.predicate.Event.{Event}
 use Rattle.step_meaning.specs.declared.predicate.Event.TheVariants as event
 use Rattle.step_meaning.specs.declared.predicate.Predicate.{Predicate, end_of-Predicate, more_of-Predicate}
 use Rattle.step_meaning.specs.declared.predicate.Predicate.TheVariants as is
@@ -135,6 +137,45 @@ entered_one = refl
 -- `\at(a[x], Pre)` reads a[1], since x is read at the Enter step too
 entered_index : holds sight (is.Relation comparing.Equal (t.AtPre (p.Index' tt (more_of-TermPlace (own 2) end_of-TermPlace) tt (more_of-Term (t.Load (own 0) int) end_of-Term) 1) int) (t.Int (pos 0))) ≡ true
 entered_index = refl
+
+-- at a Return of function 4 `COR` and `RETURN` hold, and `CALL` doesn't; at its Enter `COR` and `CALL`
+abbrev at_event : Event → Sight
+at_event x = record sight { event = x; arguments = value.Int (pos 1) ∷ [] }
+
+return_either : holds (at_event (event.Return 4)) (is.Event kind_of.Either 4) ≡ true
+return_either = refl
+
+return_return : holds (at_event (event.Return 4)) (is.Event kind_of.Return 4) ≡ true
+return_return = refl
+
+return_no_call : holds (at_event (event.Return 4)) (is.Event kind_of.Call 4) ≡ false
+return_no_call = refl
+
+enter_either : holds (at_event (event.Enter 4)) (is.Event kind_of.Either 4) ≡ true
+enter_either = refl
+
+-- `f().n` at an Enter of f, of another function, and at a Return
+abbrev parameter_is_one : ℕ → Predicate
+parameter_is_one f = is.Relation comparing.Equal (t.Parameter f 0) (t.Int (pos 1))
+
+own_parameter : holds (at_event (event.Enter 4)) (parameter_is_one 4) ≡ true
+own_parameter = refl
+
+other_parameter : holds (at_event (event.Enter 4)) (parameter_is_one 5) ≡ false
+other_parameter = refl
+
+returned_parameter : holds (at_event (event.Return 4)) (parameter_is_one 4) ≡ false
+returned_parameter = refl
+
+-- `\null + 0 == \null` and `\null + 1 == \null`
+abbrev null_moved : ℕ → Predicate
+null_moved n = is.Relation comparing.Equal (t.Move' tt (more_of-Term t.Null end_of-Term) tt (more_of-Term (t.Int (pos n)) end_of-Term) 1) t.Null
+
+null_moved_by_none : holds sight (null_moved 0) ≡ true
+null_moved_by_none = refl
+
+null_moved_by_one : holds sight (null_moved 1) ≡ false
+null_moved_by_one = refl
 
 -- the read of a cell that holds nothing
 unset : holds sight (is.Relation comparing.Equal (t.Load (p.Member' tt (more_of-TermPlace (own 3) end_of-TermPlace) 1) (type.Int kind.Char)) (t.Int (pos 0))) ≡ false

@@ -1,13 +1,8 @@
 -- Memories whose cells hold values of their types stay so, and an access gives a value of its type.
 use Rattle.std.proofs.Common.{◌≡◌, ℕ, zero, suc, ◌<◌, ◌^◌, Bool, true, false, cond, List, [], ◌∷◌, length, map, drop, Option, Some, None, refl, sym, ap, subst, ◌∙◌, arith}
-use Rattle.std.specs.Prelude.{slice_get, option_and_then, option_map, IsTrue, ◌==◌}
+use Rattle.std.specs.Prelude.{slice_get, option_and_then, option_map, ◌==◌}
 use Rattle.std.specs.List.{AllByRecursion}
-use Rattle.std.proofs.lemmas.Bool.{eqb-true}
-use Rattle.std.proofs.Math.Dec.{eqb_refl, T}
-use Rattle.step_meaning.specs.declared.value.CType.{CType, end_of-CType, more_of-CType}
-use Rattle.step_meaning.specs.declared.value.CType.TheVariants as type
-use Rattle.step_meaning.specs.declared.value.IntKind.{IntKind}
-use Rattle.step_meaning.specs.declared.value.IntKind.TheVariants as kind
+use Rattle.step_meaning.specs.declared.value.CType.{CType}
 use Rattle.step_meaning.specs.declared.value.NameKind.{NameKind}
 use Rattle.step_meaning.specs.declared.value.NameKind.TheVariants as names
 use Rattle.step_meaning.specs.declared.value.Name.{Name}
@@ -15,13 +10,13 @@ use Rattle.step_meaning.specs.declared.value.Value.{Value}
 use Rattle.step_meaning.specs.declared.value.Value.TheVariants as value
 use Rattle.step_meaning.specs.declared.value.Cell.{Cell}
 use Rattle.step_meaning.specs.declared.value.Cell.TheVariants.{Nothing, Holds}
-use Rattle.step_meaning.specs.Types.{kind_number, same_type}
+use Rattle.step_meaning.specs.Types.{same_type}
 use Rattle.step_meaning.specs.Memory.{Slot, Block, Frame, HeapBlock, Memory, filled, typed, slot_at, block, block_in, frame_of, block_of, heap_block, room_at, reached, set_cell, at_block, at_frame, at_heap, changed, stored, with_block, without, begins_block, freed}
-use Rattle.step_meaning.specs.Numbers.{is_in_range}
 use Rattle.step_meaning.specs.Traced.{HasType, CellHasType, SlotTyped, PointsIntoProgram}
 use Rattle.step_meaning.specs.TracedRuns.{cells_declared}
 use Rattle.step_meaning.proofs.Falling.{Falls, falls_more}
-use Rattle.step_meaning.proofs.Ranges.{and_true, false_is_not_true, left_of_and, right_of_and}
+use Rattle.step_meaning.proofs.SameTypes.{same_type_equal, same_itself}
+pub use Rattle.step_meaning.proofs.SameTypes.{number_same}
 
 -- ---- lists and options
 
@@ -51,58 +46,12 @@ drop_map f (x ∷ xs) = refl
 
 -- ---- types of values
 
-kinds_same : (P : IntKind → Type 0) (k l : IntKind) → (kind_number k == kind_number l) ≡ true → P k → P l
-kinds_same P kind.Char kind.Char e h = h
-kinds_same P kind.SChar kind.SChar e h = h
-kinds_same P kind.UChar kind.UChar e h = h
-kinds_same P kind.Short kind.Short e h = h
-kinds_same P kind.UShort kind.UShort e h = h
-kinds_same P kind.Int kind.Int e h = h
-kinds_same P kind.UInt kind.UInt e h = h
-kinds_same P kind.Long kind.Long e h = h
-kinds_same P kind.ULong kind.ULong e h = h
-kinds_same P _ _ e h = false_is_not_true e
-
 -- values of a type have each type that is the same
 pub has_same_type : (t u : CType) (v : Value) → same_type t u ≡ true → HasType t v → HasType u v
-has_same_type (type.Int k) (type.Int l) (value.Int z) e h = kinds_same (λ k. IsTrue (is_in_range k z)) k l e h
-has_same_type (type.Pointer' p (more_of-CType t end_of-CType)) (type.Pointer' q (more_of-CType u end_of-CType)) value.Null e h = tt
-has_same_type (type.Pointer' p (more_of-CType t end_of-CType)) (type.Pointer' q (more_of-CType u end_of-CType)) (value.Pointer n o) e h = h
-has_same_type (type.Pointer' p (more_of-CType t end_of-CType)) (type.Pointer' q (more_of-CType u end_of-CType)) (value.Int z) e h = absurd h
-has_same_type (type.Int k) (type.Int l) value.Null e h = absurd h
-has_same_type (type.Int k) (type.Int l) (value.Pointer n o) e h = absurd h
-has_same_type (type.Array' p (more_of-CType t end_of-CType) n) (type.Array' q (more_of-CType u end_of-CType) m) v e h = absurd (array v h)
-  where
-    array : (v : Value) → HasType (type.Array' p (more_of-CType t end_of-CType) n) v → ⊥
-    array value.Null h = h
-    array (value.Int z) h = h
-    array (value.Pointer n o) h = h
-has_same_type (type.Struct n) (type.Struct m) value.Null e h = absurd h
-has_same_type (type.Struct n) (type.Struct m) (value.Int z) e h = absurd h
-has_same_type (type.Struct n) (type.Struct m) (value.Pointer k o) e h = absurd h
-has_same_type type.Void type.Void value.Null e h = absurd h
-has_same_type type.Void type.Void (value.Int z) e h = absurd h
-has_same_type type.Void type.Void (value.Pointer k o) e h = absurd h
-has_same_type _ _ v e h = false_is_not_true e
-
-pub number_same : (n : ℕ) → (n == n) ≡ true
-number_same n = told (n == n) (eqb_refl n)
-  where
-    told : (b : Bool) → T b → b ≡ true
-    told true h = refl
-    told false h = absurd h
+has_same_type t u v e h = subst (λ t. HasType t v) (same_type_equal t u e) h
 
 pub same_type_turned : (t u : CType) → same_type t u ≡ true → same_type u t ≡ true
-same_type_turned (type.Int k) (type.Int l) e = kinds_same (λ l. (kind_number l == kind_number k) ≡ true) k l e (number_same (kind_number k))
-same_type_turned (type.Pointer' p (more_of-CType t end_of-CType)) (type.Pointer' q (more_of-CType u end_of-CType)) e = same_type_turned t u e
-same_type_turned (type.Array' p (more_of-CType t end_of-CType) n) (type.Array' q (more_of-CType u end_of-CType) m) e =
-    and_true (turned (left_of_and _ _ e)) (same_type_turned t u (right_of_and _ _ e))
-  where
-    turned : (n == m) ≡ true → (m == n) ≡ true
-    turned e = rw (eqb-true n m e) (number_same m)
-same_type_turned (type.Struct n) (type.Struct m) e = rw (eqb-true n m e) (number_same m)
-same_type_turned type.Void type.Void e = refl
-same_type_turned _ _ e = false_is_not_true e
+same_type_turned t u e = subst (λ v. same_type v t ≡ true) (same_type_equal t u e) (same_itself t)
 
 -- a value in a cell of the type
 abbrev pub InCell : CType → Value → Type 0

@@ -28,7 +28,7 @@ use Rattle.step_meaning.specs.Traced.{SlotTyped, is_program_kind}
 use Rattle.step_meaning.specs.TracedRuns.{cells_declared}
 use Rattle.step_meaning.proofs.Flows.{run_logged}
 use Rattle.step_meaning.proofs.Ranges.{false_is_not_true, left_of_and, right_of_and}
-use Rattle.step_meaning.proofs.TypedMemory.{Each, WhereSome, is_empty, get_fits, InCell, has_same_type, same_type_turned, number_same, BlockFits, filled_declared, Shape, MemoryFits}
+use Rattle.step_meaning.proofs.TypedMemory.{Each, WhereSome, is_empty, InCell, has_same_type, same_type_turned, number_same, BlockFits, filled_declared, Shape, MemoryFits}
 use Rattle.step_meaning.proofs.StepsFit.{InCells, ReturnFits, global_cells, StepFits, ItemFits}
 use Rattle.step_meaning.proofs.TypedOperators.{OfType, not_true}
 use Rattle.step_meaning.proofs.FormedFunctions.{formed_function}

@@ -20,7 +20,7 @@ IsSmall ts = length ts ≤ 65536
 abbrev members_cells : List (List CType) → List Declared → List CType
 members_cells structs ds = flat_map (λ d. cell_types structs d.ctype) ds
 
-last_struct : (x : List (List CType)) (bs : List Layout) (l : Layout) → struct_cells x (bs ++ (l ∷ [])) ≡ struct_cells x bs ++ (members_cells (struct_cells x bs) l.members ∷ [])
+pub last_struct : (x : List (List CType)) (bs : List Layout) (l : Layout) → struct_cells x (bs ++ (l ∷ [])) ≡ struct_cells x bs ++ (members_cells (struct_cells x bs) l.members ∷ [])
 last_struct x [] l = refl
 last_struct x (b ∷ bs) l = last_struct (x ++ (members_cells x b.members ∷ [])) bs l
 

@@ -130,7 +130,7 @@ to_node = record { file_scope = refl; no_activation = refl; no_later = lit≤ tt
 to_value : IsAddressConstant adding 1 int list 0
 to_value = record { file_scope = refl; no_activation = refl; no_later = lit≤ tt; part = (lit< tt, in_member int 0 0 refl refl (itself refl refl)) }
 
-adding_well_formed : IsWellFormed adding
+pub adding_well_formed : IsWellFormed adding
 unfolding is_keyword keywords
 adding_well_formed = record {
   structs = refl;

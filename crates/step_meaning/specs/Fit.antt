@@ -1,6 +1,6 @@
 -- Hooks that fit a core: what a weaver asks of the code that it puts beside a program's steps.
 use Rattle.std.specs.Prelude.{◌≡◌, ◌≢◌, ℕ, ◌+◌, ◌≤◌, ◌<◌, ◌^◌, nat_lt, Bool, true, false, ◌&&◌, if◌then◌else◌, ◌==◌, IsTrue, List, [], ◌∷◌, ◌++◌, length, replicate, None}
-use Rattle.std.specs.List.{AllByRecursion, AllPairs}
+use Rattle.std.specs.List.{AllByRecursion, AllPairs, Contains}
 use Rattle.step_meaning.specs.declared.value.CType.{CType, end_of-CType, more_of-CType}
 use Rattle.step_meaning.specs.declared.value.CType.TheVariants as type
 use Rattle.step_meaning.specs.declared.value.NameKind.{NameKind}
@@ -89,11 +89,11 @@ hook_allowed q pt =
 
 -- ---- the code of a point
 
--- ghost statements, and assertions of the monitor
-abbrev pub IsHookStatement : ℕ → Stmt → Type 0
-IsHookStatement j (Ghost g) = Unit {0}
-IsHookStatement j (Assert k m r) = m ≡ j
-IsHookStatement j _ = ⊥
+-- ghost statements, and assertions of these monitors
+abbrev pub IsHookStatement : (ℕ → Type 0) → Stmt → Type 0
+IsHookStatement IsTheirs (Ghost g) = Unit {0}
+IsHookStatement IsTheirs (Assert k m r) = IsTheirs m
+IsHookStatement IsTheirs _ = ⊥
 
 -- the hooks' own ghosts: those of file scope from `first` on, and the saves of the point's function
 abbrev pub IsOwnNumber : Hooks → ℕ → NameKind → ℕ → Type 0
@@ -216,11 +216,12 @@ HookStatementFits g a s = Unit {0}
 
 -- ---- hooks that fit
 
-pub record PointFits (q : Core) (h : Hooks) (pt : HookPoint) : Type 0 where
+-- where assertions may be of these monitors
+pub record PointFitsFor (IsTheirs : ℕ → Type 0) (q : Core) (h : Hooks) (pt : HookPoint) : Type 0 where
   -- the point names a function with a body
   pub function : (f : Function) × IsFunctionOf q pt.function f
   pub saves : AllByRecursion (IsGhostOf q) pt.saves
-  pub statements : AllByRecursion (IsHookStatement h.monitor) pt.code
+  pub statements : AllByRecursion (IsHookStatement IsTheirs) pt.code
   pub sets_own : EachInCode (λ v e. IsOwnGhost h pt.function v) (λ r. Unit {0}) pt.code
   pub saves_at_enter : EachInCode (λ v e. MaySet pt.place v.kind) (λ r. Unit {0}) pt.code
   pub no_ghost_address : EachPart (record no_condition { on_term = IsNoGhostAddress }) pt.code
@@ -232,12 +233,22 @@ pub record PointFits (q : Core) (h : Hooks) (pt : HookPoint) : Type 0 where
   -- kinds, integer constants and intervals
   pub fits : AllByRecursion (HookStatementFits (hook_setting q h pt.function) (hook_allowed q pt)) pt.code
 
-pub record Fit (q : Core) (h : Hooks) : Type 0 where
+-- where assertions may be of these monitors, and there are at most so many ghosts of file scope, and as many saves in a function
+pub record FitsFor (IsTheirs : ℕ → Type 0) (most : ℕ) (q : Core) (h : Hooks) : Type 0 where
   pub globals : AllByRecursion (IsGhostOf q) h.globals
-  -- at most 2 ^ 26 ghosts of file scope, and as many saves in a function
-  pub few_globals : length h.globals ≤ 2 ^ 26
-  pub few_saves : (f : ℕ) → length (saves_of h.points f) ≤ 2 ^ 26
-  pub points : AllByRecursion (PointFits q h) h.points
+  pub few_globals : length h.globals ≤ most
+  pub few_saves : (f : ℕ) → length (saves_of h.points f) ≤ most
+  pub points : AllByRecursion (PointFitsFor IsTheirs q h) h.points
+
+abbrev pub IsOwnMonitor : Hooks → ℕ → Type 0
+IsOwnMonitor h m = m ≡ h.monitor
+
+abbrev pub PointFits : Core → Hooks → HookPoint → Type 0
+PointFits q h pt = PointFitsFor (IsOwnMonitor h) q h pt
+
+-- assertions of the hooks' monitor, and at most 2 ^ 26 ghosts
+abbrev pub Fit : Core → Hooks → Type 0
+Fit q h = FitsFor (IsOwnMonitor h) (2 ^ 26) q h
 
 -- ---- several hooks that are woven together
 
@@ -245,6 +256,10 @@ pub record Fit (q : Core) (h : Hooks) : Type 0 where
 abbrev pub AreNumberedFrom : ℕ → List Hooks → Type 0
 AreNumberedFrom n [] = Unit {0}
 AreNumberedFrom n (h ∷ hs) = (1 ≤ length h.globals → h.first ≡ n) × AreNumberedFrom (n + length h.globals) hs
+
+-- the monitor of one of the hooks
+abbrev pub IsMonitorOf : List Hooks → ℕ → Type 0
+IsMonitorOf hs m = (h : Hooks) × Contains hs h × (m ≡ h.monitor)
 
 pub record FitTogether (q : Core) (hs : List Hooks) : Type 0 where
   pub each : AllByRecursion (Fit q) hs

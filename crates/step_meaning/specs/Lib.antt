@@ -51,3 +51,4 @@ pub mod Fit
 pub mod FitsBounded
 pub mod FoldPrefixes
 pub mod TracedPrefixes
+pub mod Strict

@@ -1,6 +1,6 @@
 -- The functions of the library that each program has: `getchar`, `putchar`, `malloc` and `free`, with the numbers 0 to 3 and without a body (C11 7.21.7.6, 7.21.7.8, 7.22.3.4, 7.22.3.3).
 -- The types of the last two have `void *`, which no other declaration has.
-use Rattle.std.specs.Prelude.{ℕ, Bool, true, false, ◌&&◌, not, ◌==◌, List, [], ◌∷◌, ◌++◌, length, take, drop, slice_get, Option, Some, None, codes}
+use Rattle.std.specs.Prelude.{ℕ, Bool, true, false, ◌&&◌, not, ◌==◌, List, [], ◌∷◌, ◌++◌, length, take, drop, Option, Some, None, codes}
 use Rattle.std.specs.Str.{bytes_eq}
 use Rattle.step_meaning.specs.declared.value.IntKind.TheVariants as kind
 use Rattle.step_meaning.specs.declared.value.CType.{CType}

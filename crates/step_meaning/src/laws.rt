@@ -4,6 +4,7 @@ ghost use Rattle.step_meaning.specs.FitsBounded.{FitsBounded, TracedSightsTyped}
 ghost use Rattle.step_meaning.specs.FoldPrefixes.{FoldsPrefixes};
 ghost use Rattle.step_meaning.specs.Limits.{OutcomeComputed};
 ghost use Rattle.step_meaning.specs.Runs.{FlowsAgree};
+ghost use Rattle.step_meaning.specs.Strict.{StrictRunsAgree};
 ghost use Rattle.step_meaning.specs.TracedPrefixes.{TracedPrefixes};
 ghost use Rattle.step_meaning.specs.TracedRuns.{WellFormedTraced};
 
@@ -53,4 +54,10 @@ pub fn folds_prefixes()
 /// The first steps of a traced list are traced.
 pub fn traced_prefixes()
     ensures { TracedPrefixes }
+{}
+
+/// A program none of whose activations is left by the misuse of a register, whatever its arguments and the world that it
+/// begins in, has no run that uses a register which holds nothing, or one at another type than its own.
+pub fn strict_runs_agree()
+    ensures { StrictRunsAgree }
 {}

@@ -17,7 +17,7 @@ pub use expr::{Answer, CompareOp, Expr, IntOp, Place_, Side, UnaryOp, UpdateOp, 
 pub use integers::{convert, int_binary, int_unary};
 pub use laws::{
     faults_halt, fits_bounded, flows_agree, folds_prefixes, outcome_is_computed, runs_are_traced,
-    same_first_steps, traced_prefixes, traced_sights_typed,
+    same_first_steps, strict_runs_agree, traced_prefixes, traced_sights_typed,
 };
 pub use parts::{ExprPart, PlacePart, PredicatePart, StmtPart, StmtsPart, TermPart};
 pub use pointers::{pointer_add, pointer_diff};

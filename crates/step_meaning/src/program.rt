@@ -32,7 +32,15 @@ pub struct Function {
 
 impl Drop for Function {
     fn drop(self) {
-        let Function { name: _name, result: _result, params: _params, locals: _locals, registers: _registers, ghosts: _ghosts, body: _body } = self;
+        let Function {
+            name: _name,
+            result: _result,
+            params: _params,
+            locals: _locals,
+            registers: _registers,
+            ghosts: _ghosts,
+            body: _body,
+        } = self;
     }
 }
 
@@ -46,7 +54,10 @@ pub struct Layout {
 
 impl Drop for Layout {
     fn drop(self) {
-        let Layout { tag: _tag, members: _members } = self;
+        let Layout {
+            tag: _tag,
+            members: _members,
+        } = self;
     }
 }
 
@@ -68,7 +79,14 @@ pub struct Core {
 
 impl Drop for Core {
     fn drop(self) {
-        let Core { layouts: _layouts, globals: _globals, initial: _initial, ghosts: _ghosts, functions: _functions, start: _start } = self;
+        let Core {
+            layouts: _layouts,
+            globals: _globals,
+            initial: _initial,
+            ghosts: _ghosts,
+            functions: _functions,
+            start: _start,
+        } = self;
     }
 }
 
@@ -86,7 +104,12 @@ pub struct Hooks {
 
 impl Drop for Hooks {
     fn drop(self) {
-        let Hooks { monitor: _monitor, first: _first, globals: _globals, points: _points } = self;
+        let Hooks {
+            monitor: _monitor,
+            first: _first,
+            globals: _globals,
+            points: _points,
+        } = self;
     }
 }
 
@@ -104,7 +127,12 @@ pub struct HookPoint {
 
 impl Drop for HookPoint {
     fn drop(self) {
-        let HookPoint { function: _function, place: _place, saves: _saves, code: _code } = self;
+        let HookPoint {
+            function: _function,
+            place: _place,
+            saves: _saves,
+            code: _code,
+        } = self;
     }
 }
 

@@ -1,7 +1,11 @@
 use crate::{
-    IntKind, IntOp, Name, NameKind, RunFault, Text, UnaryOp, Value, convert, flows_agree,
-    int_binary, int_unary, outcome_is_computed, pointer_add, pointer_diff, same_first_steps,
+    Expr, ExprPart, IntKind, IntOp, Name, NameKind, Place_, PlacePart, Predicate, PredicatePart,
+    RunFault, Stmt, StmtPart, StmtsPart, Term, TermPart, Text, UnaryOp, Value, Variable, convert,
+    flows_agree, int_binary, int_unary, outcome_is_computed, pointer_add, pointer_diff,
+    same_first_steps,
 };
+use sqlite_items::Items;
+use std::alloc::{AllocError, Global};
 
 #[test]
 fn integers(rt: HostRuntime) {
@@ -46,4 +50,33 @@ fn names_and_laws(rt: HostRuntime) {
         Ok(inner) => assert!(rt; Text::from_string(inner).as_str() == "main"),
         Err(_) => assert!(rt; false),
     }
+}
+
+/// One part of each sort, made and given back.
+fn hold_each(alloc: Global) -> Result<bool, AllocError> {
+    let expr = ExprPart::new(alloc, Expr::Literal(IntKind::Int, 1))?;
+    let kept = matches!(expr.get(), Expr::Literal(IntKind::Int, 1));
+    let place = PlacePart::new(
+        alloc,
+        Place_::Own(Variable {
+            kind: NameKind::Global,
+            index: 7,
+        }),
+    )?;
+    let stmt = StmtPart::new(alloc, Stmt::Break)?;
+    let term = TermPart::new(alloc, Term::Int(2))?;
+    let predicate = PredicatePart::new(alloc, Predicate::True)?;
+    let stmts = StmtsPart::new(Items::new(alloc));
+    let _expr = expr.into_boxed();
+    let _place = place.into_boxed();
+    let _stmt = stmt.into_boxed();
+    let _term = term.into_boxed();
+    let _predicate = predicate.into_boxed();
+    let _stmts = stmts.into_items();
+    Ok(kept)
+}
+
+#[test]
+fn parts(rt: HostRuntime) {
+    assert!(rt; matches!(hold_each(rt.alloc()), Ok(true)));
 }

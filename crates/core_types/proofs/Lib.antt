@@ -1,0 +1,4 @@
+pub mod TypeEquations
+pub mod SizeLaws
+pub mod MemberLaws
+pub mod MemberSteps
