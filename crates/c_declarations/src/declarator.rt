@@ -51,7 +51,7 @@ fn named(
 }
 
 /// A size in brackets after what was found, which may nest one deeper.
-#[tactic(auto, unfolding(crate::specs::DeclaratorReading::array))]
+#[tactic(auto, unfolding(crate::specs::DeclaratorReading::array), using(crate::proofs::BracketLaws::size_below))]
 fn array(
     alloc: Global,
     tokens: &mut Cursor<'_>,

@@ -24,7 +24,7 @@ fn empty_size(tokens: &mut Cursor<'_>) -> Result<MeasuredSizes, ParseFault>
     Ok(MeasuredSizes::empty(open, close))
 }
 
-#[tactic(auto, unfolding(crate::specs::ParameterReading::some_size))]
+#[tactic(auto, unfolding(crate::specs::ParameterReading::some_size), using(crate::proofs::BracketLaws::size_below))]
 fn some_size(
     alloc: Global,
     tokens: &mut Cursor<'_>,
@@ -54,7 +54,7 @@ fn first_size(
 }
 
 /// A size after those that were found, which may nest one deeper.
-#[tactic(auto, unfolding(crate::specs::ParameterReading::next_size))]
+#[tactic(auto, unfolding(crate::specs::ParameterReading::next_size), using(crate::proofs::BracketLaws::size_below))]
 fn next_size(
     alloc: Global,
     tokens: &mut Cursor<'_>,
