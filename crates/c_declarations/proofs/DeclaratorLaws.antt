@@ -346,7 +346,7 @@ pub declarator_from-gives : (may : Bool) (k : ℕ) (found : List Star) (ts : Lea
 unfolding read.declarator_from stars_before
 declarator_from-gives may zero found ts ss x rest h kept end = absurd (omega (arith, h.below))
 declarator_from-gives may (suc n) found ts [] x rest h kept end =
-    refuse_test (same w.Star (word_at ts)) _ _ ts (direct_not_star _ (direct-Starts.word (suc n) ts x rest h))
+    refuse_test (same w.Star (word_at ts)) _ _ ts (direct_not_star (word_at ts) (direct-Starts.word (suc n) ts x rest h))
     ∙ gives_bind _ (direct-gives may n (inner_at n).choice (read.declarator_from may n []) (exact n).choice_complete
     (λ ts a rest h kept end. declarator_from-gives may n [] ts a.stars a.direct rest (subst (λ v. Takes n ts v rest) (declarator-is a) h) (subst (λ b. Kept may b) (unsized-is a) kept) end)
     x ts rest h kept end)
@@ -356,7 +356,7 @@ declarator_from-gives may (suc n) found ts (s ∷ ss) x rest h kept end =
     let inside = nested-Takes t.second in
     choose (same w.Star (word_at ts)) _ _ ts (ap (same w.Star) (star-word s t.first))
     ∙ deep-gives n (omega (arith, inside.below)) _ ts
-    ∙ gives_bind _ ((star-Complete (suc n)).gives ts s t.mid t.first (record { ends = declarator_not_const _ (stars-begin ss n x t.mid rest inside) }))
+    ∙ gives_bind _ ((star-Complete (suc n)).gives ts s t.mid t.first (record { ends = declarator_not_const (word_at t.mid) (stars-begin ss n x t.mid rest inside) }))
     (declarator_from-gives may n (found ++ s ∷ []) t.mid ss x rest inside kept end)
     ∙ ap (λ ss. let y : Declarator = record { stars = ss; direct = x } in Some (y, rest)) (append_assoc found (s ∷ []) ss)
 

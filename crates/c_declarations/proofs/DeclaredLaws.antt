@@ -135,7 +135,7 @@ init-Complete (suc n) = record {
   gives = λ ts a rest h end. init_cases (λ a. Takes (suc n) ts (init a) rest → read.init_at (suc n) ts ≡ Some (a, rest))
       (λ x h.
       let y = subst (λ v. Takes (suc n) ts v rest) (init-Value x) h in
-      refuse_test (same w.LeftBrace (word_at ts)) _ _ ts (begins_no_brace _ (assign-Starts.word (suc n) ts x rest y))
+      refuse_test (same w.LeftBrace (word_at ts)) _ _ ts (begins_no_brace (word_at ts) (assign-Starts.word (suc n) ts x rest y))
       ∙ gives_bind _ ((exact (suc n)).assign_complete.gives ts x rest y end) refl)
       (λ l all last r h.
       let y = subst (λ v. Takes (suc n) ts v rest) (init-Braces l all last r) h in
