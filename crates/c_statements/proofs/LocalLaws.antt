@@ -139,7 +139,7 @@ module _ (k : ℕ) where
       let t = then-Takes s.second in
       let base_there = base-Starts.word k s.mid x t.mid t.first in
       deep_gives k _ ts some
-      ∙ refuse_test (same w.Register (word_at ts)) _ _ ts (variables_no_register _ (consts_begin cs s.first base_there))
+      ∙ refuse_test (same w.Register (word_at ts)) _ _ ts (variables_no_register (word_at ts) (consts_begin cs s.first base_there))
       ∙ gives_bind _ ((consts-Complete k).gives ts cs s.mid s.first (at_word begins_type type_not_const base_there))
       (gives_bind _ (base-gives x names semicolon s.mid t.mid rest t.first t.second) (gives_bind _ (names-gives names semicolon t.mid rest t.second) refl))
 

@@ -6,14 +6,14 @@ ghost use Rattle.c_type_names.specs.Held.{ReadsAfter};
 ghost use Rattle.c_statements.specs.StatementReading as spec;
 
 use c_declarations::declared::all_declared;
-use c_type_names::held::{then_base, then_expect};
-use c_type_names::types::{base, consts};
 use c_grammar::chain::Chain;
 use c_grammar::cursor::{Cursor, same};
 use c_grammar::declaration::Declared;
 use c_grammar::fault::ParseFault;
 use c_grammar::statement::Local;
 use c_grammar::word::{Leaf, Word};
+use c_type_names::held::{then_base, then_expect};
+use c_type_names::types::{base, consts};
 use std::alloc::Global;
 
 /// Whether a declaration begins with the word.

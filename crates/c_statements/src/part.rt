@@ -35,6 +35,7 @@ fn begins_stmt(word: Word) -> bool
             | Word::Number
             | Word::Character
             | Word::LeftParen
+            | Word::SizeOf
     )
 }
 

@@ -17,11 +17,11 @@ use crate::made::{do_of, for_of, if_else_of, if_of, push_local, push_stmt, while
 use crate::part::begins_part;
 use crate::value::{then_up_to, up_to};
 use c_expressions::expression::assign;
-use c_type_names::held::{boxed, then_expect};
 use c_grammar::cursor::{Cursor, same};
 use c_grammar::fault::ParseFault;
 use c_grammar::statement::{Block, BlockPart, ForFirst, Local, Stmt};
 use c_grammar::word::Word;
+use c_type_names::held::{boxed, then_expect};
 use sqlite_items::{Boxed, Items};
 use std::alloc::Global;
 

@@ -6,11 +6,11 @@ ghost use Rattle.c_type_names.specs.Held.{ReadsAfter};
 ghost use Rattle.c_statements.specs.StatementReading as spec;
 
 use c_expressions::expression::assign;
-use c_type_names::held::then_expect;
 use c_grammar::cursor::{Cursor, same};
 use c_grammar::expression::Assign;
 use c_grammar::fault::ParseFault;
 use c_grammar::word::{Leaf, Word};
+use c_type_names::held::then_expect;
 use std::alloc::Global;
 
 /// A value before `stop`.
