@@ -1,4 +1,4 @@
--- Parsers as functions on lists of leaves. They are a tool of proofs: no public contract names them.
+-- Parsers as functions on lists of leaves: what the contracts of the reading crates say that a call reads. That of a whole program names none of them.
 use Rattle.std.specs.Prelude.{◌≡◌, ℕ, zero, suc, Bool, true, false, not, ◌&&◌, if◌then◌else◌, List, [], ◌∷◌, ◌++◌, length, Option, Some, None, Result, Ok, Err}
 use Rattle.c_lexer.specs.declared.token.Refusal.{Refusal}
 use Rattle.c_grammar.specs.declared.word.Word.{Word}
