@@ -9,14 +9,14 @@ ghost use Rattle.c_type_names.specs.Held.{ReadsAfter};
 
 use crate::bracket::then_bracketed;
 use crate::deepest::deepest;
-use c_type_names::held::then_expect;
-use c_type_names::types::star;
 use c_grammar::cursor::{Cursor, same};
 use c_grammar::declaration::Declarator;
 use c_grammar::fault::ParseFault;
 use c_grammar::measured::{MeasuredDeclarator, MeasuredDirect};
 use c_grammar::types::Star;
 use c_grammar::word::{Leaf, Word};
+use c_type_names::held::then_expect;
+use c_type_names::types::star;
 use sqlite_items::Items;
 use std::alloc::Global;
 

@@ -9,7 +9,5 @@ mod program;
 pub use c_grammar::fault::ParseFault;
 pub use c_grammar::program::ProgramTree;
 pub use c_grammar::word::Mode;
-pub use first_form::{
-    FirstFunction, FirstProperty, FirstStmt, FirstTree, first_tree, one_program,
-};
+pub use first_form::{FirstFunction, FirstProperty, FirstStmt, FirstTree, first_tree, one_program};
 pub use program::{one_tree, parse_program};
