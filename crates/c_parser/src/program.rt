@@ -7,14 +7,14 @@ ghost use Rattle.c_parser.specs.ItemReading as spec;
 ghost use Rattle.c_parser.specs.ItemReading.{IsWhole};
 
 use crate::item::ItemReader;
-use c_type_names::chain::run;
-use c_type_names::held::unless_refused;
 use c_grammar::cursor::Cursor;
 use c_grammar::fault::ParseFault;
 use c_grammar::leaf::leaves_of;
 use c_grammar::program::{Item, ProgramTree};
 use c_grammar::word::{Leaf, Mode};
 use c_lexer::Token;
+use c_type_names::chain::run;
+use c_type_names::held::unless_refused;
 use sqlite_items::Items;
 use std::alloc::Global;
 
