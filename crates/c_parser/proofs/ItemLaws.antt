@@ -422,11 +422,11 @@ item-begins k ts (i.Struct s m op all cl names e) rest h = ap begins_item (word_
 item-begins k ts (i.Variables ps x names e) rest h =
     let a = then-Takes h in
     let c = then-Takes a.second in
-    declaration_begins _ (prefixed_begins ps (widen ps a.first).0 (base-Starts.word k a.mid x c.mid c.first))
+    declaration_begins (word_at ts) (prefixed_begins ps (widen ps a.first).0 (base-Starts.word k a.mid x c.mid c.first))
 item-begins k ts (i.Function ps x stars m op inside cl last) rest h =
     let a = then-Takes h in
     let c = then-Takes a.second in
-    declaration_begins _ (prefixed_begins ps a.first (base-Starts.word k a.mid x c.mid c.first))
+    declaration_begins (word_at ts) (prefixed_begins ps a.first (base-Starts.word k a.mid x c.mid c.first))
 item-begins k ts (i.Meta e) rest h = ap begins_item (word_is w.Meta e h)
 item-begins k ts (i.Ghost e) rest h = ap begins_item (word_is w.Ghost e h)
 

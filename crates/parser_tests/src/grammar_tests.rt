@@ -103,7 +103,7 @@ const ITEMS: [(&str, &str); 56] = [
 ];
 
 /// Bodies of `main`, and where they are refused; a body begins in column 18.
-const BODIES: [(&str, &str); 82] = [
+const BODIES: [(&str, &str); 91] = [
     ("return 0", "1:27"),
     ("return 0;", "ok"),
     ("return;", "ok"),
@@ -120,7 +120,17 @@ const BODIES: [(&str, &str); 82] = [
     ("/*@ ghost x */ /*@ assert x */", "ok"),
     ("goto x;", "1:18"),
     ("switch (x) {}", "1:18"),
-    ("sizeof x;", "1:18"),
+    ("sizeof x;", "ok"),
+    ("sizeof (x)[0];", "ok"),
+    ("sizeof (int);", "ok"),
+    ("sizeof (int **) + 1;", "ok"),
+    ("sizeof sizeof (int);", "ok"),
+    ("sizeof -(int) x;", "ok"),
+    ("sizeof ((int) x);", "ok"),
+    ("sizeof (int) x;", "1:31"),
+    ("sizeof (int)[0];", "1:30"),
+    ("sizeof;", "1:24"),
+    ("sizeof ();", "1:26"),
     ("x: ;", "1:19"),
     ("1, 2;", "1:19"),
     ("(const int) x;", "1:19"),
@@ -182,7 +192,6 @@ const BODIES: [(&str, &str); 82] = [
     ("return sizeof (int) * 2;", "ok"),
     ("return 2 * sizeof(int);", "ok"),
     ("return (int) sizeof (int);", "ok"),
-    ("sizeof x;", "ok"),
     ("return sizeof;", "1:31"),
     ("return sizeof = 1;", "1:32"),
     ("return sizeof (int x);", "1:37"),
@@ -263,11 +272,27 @@ type Nest = (
     usize,
 );
 
-const NESTS: [Nest; 25] = [
+const NESTS: [Nest; 27] = [
     ("int main(void) { return ", "(", "0", ")", "; }", 1),
     ("int main(void) { return ", "- ", "0", "", "; }", 1),
     ("int main(void) { return ", "(int) ", "0", "", "; }", 1),
     ("int main(void) { return ", "sizeof ", "0", "", "; }", 1),
+    (
+        "int main(void) { return ",
+        "(",
+        "sizeof (int)",
+        ")",
+        "; }",
+        2,
+    ),
+    (
+        "int main(void) { return sizeof (int ",
+        "*",
+        "",
+        "",
+        "); }",
+        1,
+    ),
     ("int main(void) { return ", "f(", "0", ")", "; }", 1),
     ("int main(void) { return ", "0 + f(1, ", "0", ")", "; }", 1),
     ("int main(void) { return ", "a[", "0", "]", "; }", 1),
