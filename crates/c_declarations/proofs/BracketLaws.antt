@@ -1,15 +1,15 @@
 -- Sizes in brackets: the parser gives what stands there.
 use Rattle.std.proofs.Common.{◌≡◌, ℕ, ◌<◌, suc, true, false, Some, refl, ap, subst, ◌∙◌, arith}
-use Rattle.c_grammar.specs.declared.word.Word.{Word}
-use Rattle.c_grammar.specs.declared.word.Word.TheVariants as w
-use Rattle.c_grammar.specs.declared.word.Leaf.{Leaf}
+use Rattle.c_words.specs.declared.word.Word.{Word}
+use Rattle.c_words.specs.declared.word.Word.TheVariants as w
+use Rattle.c_words.specs.declared.word.Leaf.{Leaf}
 use Rattle.c_grammar.specs.declared.expression.Choice.{Choice}
-use Rattle.c_grammar.specs.Words.{same}
-use Rattle.c_grammar.specs.Written.{Written, ◌then◌, one, nested, Takes}
+use Rattle.c_words.specs.Words.{same}
+use Rattle.c_words.specs.Written.{Written, ◌then◌, one, nested, Takes}
 use Rattle.c_grammar.specs.Expressions.{choice}
-use Rattle.c_grammar.specs.Parsing.{Leaves, Parser, word_at, after, expect}
-use Rattle.c_grammar.proofs.Taking.{Takes-then, then-Takes, Takes-nested, nested-Takes}
-use Rattle.c_grammar.proofs.Reading.{finish, after-one, at_one, bind_ok, gives_bind, same_pair, Sound, Complete, take_if-takes, take_if-gives}
+use Rattle.c_words.specs.Parsing.{Leaves, Parser, word_at, after, expect}
+use Rattle.c_words.proofs.Taking.{Takes-then, then-Takes, Takes-nested, nested-Takes}
+use Rattle.c_words.proofs.Reading.{finish, after-one, at_one, bind_ok, gives_bind, same_pair, Sound, Complete, take_if-takes, take_if-gives}
 use Rattle.c_expressions.specs.ExpressionReading.{begins_expression, goes_on_choice}
 use Rattle.c_expressions.specs.ExpressionReading.{inner_at}
 use Rattle.c_expressions.proofs.ExpressionLaws.{exact, choice-Starts}

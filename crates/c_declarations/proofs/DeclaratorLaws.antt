@@ -1,22 +1,22 @@
 -- Declarators: the parser gives a tree exactly where one stands.
 use Rattle.std.proofs.Common.{◌≡◌, ℕ, zero, suc, ◌+◌, ◌-◌, ◌<◌, ◌≤◌, ltb, Bool, true, false, ◌||◌, ◌&&◌, not, List, [], ◌∷◌, ◌++◌, Some, refl, sym, ap, ap₂, subst, ◌∙◌, ⊎_elim, append_assoc, append-nil, arith}
 use Rattle.std.proofs.lemmas.Bool.{ltb-true, lt-ltb}
-use Rattle.c_grammar.specs.declared.word.Word.{Word}
-use Rattle.c_grammar.specs.declared.word.Word.TheVariants as w
-use Rattle.c_grammar.specs.declared.word.Leaf.{Leaf}
+use Rattle.c_words.specs.declared.word.Word.{Word}
+use Rattle.c_words.specs.declared.word.Word.TheVariants as w
+use Rattle.c_words.specs.declared.word.Leaf.{Leaf}
 use Rattle.c_grammar.specs.declared.types.Star.{Star}
 use Rattle.c_grammar.specs.declared.expression.Choice.{Choice}
 use Rattle.c_grammar.specs.declared.declaration.Declarator.{Declarator}
 use Rattle.c_grammar.specs.declared.declaration.Direct.{Direct}
 use Rattle.c_grammar.specs.declared.declaration.Direct.TheVariants as d
-use Rattle.c_grammar.specs.Words.{same}
-use Rattle.c_grammar.specs.Written.{Written, ◌then◌, one, one_of, nested, Takes}
+use Rattle.c_words.specs.Words.{same}
+use Rattle.c_words.specs.Written.{Written, ◌then◌, one, one_of, nested, Takes}
 use Rattle.c_grammar.specs.Types.{star, stars_before}
 use Rattle.c_grammar.specs.Expressions.{choice}
 use Rattle.c_grammar.specs.Declarations.{array_of, direct_shape, direct, declarator, is_unsized}
-use Rattle.c_grammar.specs.Parsing.{Leaves, Outcome, Parser, and_then, word_at, after, take_if, expect}
-use Rattle.c_grammar.proofs.Taking.{Takes-then, then-Takes, Takes-nested, nested-Takes, both, first_of_both, second_of_both}
-use Rattle.c_grammar.proofs.Reading.{after-one, at_one, word_is, bind_ok, gives_bind, chosen, choose, refuse_test, same_pair, Sound, Complete, Ends, Starts, take_if-takes, take_if-gives, take_if-word}
+use Rattle.c_words.specs.Parsing.{Leaves, Outcome, Parser, and_then, word_at, after, take_if, expect}
+use Rattle.c_words.proofs.Taking.{Takes-then, then-Takes, Takes-nested, nested-Takes, both, first_of_both, second_of_both}
+use Rattle.c_words.proofs.Reading.{after-one, at_one, word_is, bind_ok, gives_bind, chosen, choose, refuse_test, same_pair, Sound, Complete, Ends, Starts, take_if-takes, take_if-gives, take_if-word}
 use Rattle.c_type_names.specs.TypeReading as types
 use Rattle.c_expressions.specs.ExpressionReading.{inner_at, deep, goes_on_choice}
 use Rattle.c_declarations.specs.DeclaratorReading as read

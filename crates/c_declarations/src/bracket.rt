@@ -1,16 +1,16 @@
 //! Sizes in brackets.
 
-ghost use Rattle.c_grammar.specs.Parsing.{Reads};
+ghost use Rattle.c_words.specs.Parsing.{Reads};
 ghost use Rattle.c_expressions.specs.ExpressionReading.{inner_at};
 ghost use Rattle.c_declarations.specs.Brackets as spec;
 ghost use Rattle.c_type_names.specs.Held.{ReadsAfter};
 
 use c_expressions::expression::choice;
-use c_grammar::cursor::Cursor;
 use c_grammar::expression::Choice;
-use c_grammar::fault::ParseFault;
-use c_grammar::word::{Leaf, Word};
 use c_type_names::held::then_expect;
+use c_words::cursor::Cursor;
+use c_words::fault::ParseFault;
+use c_words::word::{Leaf, Word};
 use std::alloc::Global;
 
 /// `[`, a size, `]`.

@@ -2,17 +2,17 @@
 
 ghost use Rattle.std.specs.Prelude.{◌≡◌, ◌<◌};
 ghost use Rattle.c_grammar.specs.Declarations as grammar;
-ghost use Rattle.c_grammar.specs.Parsing.{Reads};
+ghost use Rattle.c_words.specs.Parsing.{Reads};
 ghost use Rattle.c_type_names.specs.Held.{ReadsAfter};
 ghost use Rattle.c_declarations.specs.ParameterReading as spec;
 
 use crate::bracket::{bracketed, then_bracketed};
 use crate::deepest::deepest;
-use c_grammar::cursor::{Cursor, same};
 use c_grammar::declaration::Sizes;
-use c_grammar::fault::ParseFault;
 use c_grammar::measured::MeasuredSizes;
-use c_grammar::word::Word;
+use c_words::cursor::{Cursor, same};
+use c_words::fault::ParseFault;
+use c_words::word::Word;
 use std::alloc::Global;
 
 #[tactic(auto, unfolding(crate::specs::ParameterReading::empty_size))]

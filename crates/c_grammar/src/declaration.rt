@@ -1,9 +1,9 @@
 //! Declarators, initialisers and parameters (C11 6.7.6, 6.7.9).
 
-use crate::chain::Chain;
 use crate::expression::{Assign, Choice};
 use crate::types::{Base, Star};
-use crate::word::Leaf;
+use c_words::chain::Chain;
+use c_words::word::Leaf;
 use sqlite_items::{Boxed, Items};
 
 #[cycle(declarator)]

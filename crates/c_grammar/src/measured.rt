@@ -9,7 +9,7 @@ ghost use Rattle.c_grammar.specs.declared.declaration.Sizes.TheVariants as z;
 use crate::declaration::{Declarator, Direct, Sizes};
 use crate::expression::Choice;
 use crate::types::Star;
-use crate::word::Leaf;
+use c_words::word::Leaf;
 use sqlite_items::{Boxed, Items};
 use std::alloc::{AllocError, Global};
 use std::marker::Model;

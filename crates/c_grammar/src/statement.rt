@@ -1,10 +1,10 @@
 //! Statements (C11 6.8) and the declarations among them.
 
-use crate::chain::Chain;
 use crate::declaration::Declared;
 use crate::expression::Assign;
 use crate::types::Base;
-use crate::word::Leaf;
+use c_words::chain::Chain;
+use c_words::word::Leaf;
 use sqlite_items::{Boxed, Items};
 
 /// A declaration in a function.

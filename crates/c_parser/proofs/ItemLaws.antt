@@ -1,10 +1,10 @@
 -- Items: the parser gives a tree exactly where one stands.
 use Rattle.std.proofs.Common.{◌≡◌, ℕ, zero, suc, ◌+◌, ◌<◌, ◌≤◌, nat_le, Bool, true, false, ◌||◌, ◌&&◌, not, cond, List, [], ◌∷◌, ◌++◌, length, Option, Some, None, refl, sym, ap, ap₂, subst, ◌∙◌, ◌⊎◌, ⊎_elim, arith}
 use Rattle.std.proofs.lemmas.Bool.Decides.{nat_tests}
-use Rattle.c_grammar.specs.declared.word.Word.{Word}
-use Rattle.c_grammar.specs.declared.word.Word.TheVariants as w
-use Rattle.c_grammar.specs.declared.word.Leaf.{Leaf}
-use Rattle.c_grammar.specs.declared.chain.Chain.{Chain}
+use Rattle.c_words.specs.declared.word.Word.{Word}
+use Rattle.c_words.specs.declared.word.Word.TheVariants as w
+use Rattle.c_words.specs.declared.word.Leaf.{Leaf}
+use Rattle.c_words.specs.declared.chain.Chain.{Chain}
 use Rattle.c_grammar.specs.declared.types.Base.{Base}
 use Rattle.c_grammar.specs.declared.types.Star.{Star}
 use Rattle.c_grammar.specs.declared.declaration.Declared.{Declared}
@@ -16,19 +16,19 @@ use Rattle.c_grammar.specs.declared.program.Body.TheVariants as b
 use Rattle.c_grammar.specs.declared.program.Item.{Item}
 use Rattle.c_grammar.specs.declared.program.Item.TheVariants as i
 use Rattle.c_grammar.specs.declared.statement.Block.{Block}
-use Rattle.c_grammar.specs.Words.{same}
-use Rattle.c_grammar.specs.Written.{Written, nothing, ◌then◌, one, one_of, nested, only, optional, run, chain, Takes}
+use Rattle.c_words.specs.Words.{same}
+use Rattle.c_words.specs.Written.{Written, nothing, ◌then◌, one, one_of, nested, only, optional, run, chain, Takes}
 use Rattle.c_grammar.specs.Types.{base, star, stars_alone}
 use Rattle.c_grammar.specs.Types as types
-use Rattle.c_grammar.specs.Expressions.{is_comma}
+use Rattle.c_words.specs.OperatorWords.{is_comma}
 use Rattle.c_grammar.specs.Declarations.{declared, all_declared, sized, params}
 use Rattle.c_grammar.specs.Statements.{block}
 use Rattle.c_grammar.specs.Programs as grammar
 use Rattle.c_grammar.specs.Programs.{is_variable_prefix, is_function_prefix, is_empty, all_named, fits_params, item}
-use Rattle.c_grammar.specs.Parsing.{Leaves, Outcome, Parser, and_then, ◌>>=◌, pure, word_at, after, take_if, expect, run_at}
-use Rattle.c_grammar.proofs.Taking.{Takes-nothing, nothing-Takes, Takes-then, Split, then-Takes, one-Takes, Takes-nested, nested-Takes, both, first_of_both, second_of_both}
-use Rattle.c_grammar.proofs.Reading.{finish, after-one, bind_ok, gives_bind, chosen, choose, refuse_test, same_pair, Sound, Complete, Ends, Starts, take_if-takes, take_if-gives, take_if-word, first_of_neither, second_of_neither, at_one, word_is}
-use Rattle.c_grammar.proofs.Runs.{run-Sound, run-Complete, tokens-Sound, tokens-Complete}
+use Rattle.c_words.specs.Parsing.{Leaves, Outcome, Parser, and_then, ◌>>=◌, pure, word_at, after, take_if, expect, run_at}
+use Rattle.c_words.proofs.Taking.{Takes-nothing, nothing-Takes, Takes-then, Split, then-Takes, one-Takes, Takes-nested, nested-Takes, both, first_of_both, second_of_both}
+use Rattle.c_words.proofs.Reading.{finish, after-one, bind_ok, gives_bind, chosen, choose, refuse_test, same_pair, Sound, Complete, Ends, Starts, take_if-takes, take_if-gives, take_if-word, first_of_neither, second_of_neither, at_one, word_is}
+use Rattle.c_words.proofs.Runs.{run-Sound, run-Complete, tokens-Sound, tokens-Complete}
 use Rattle.c_type_names.specs.TypeReading.{begins_type, goes_on_base, stars_from}
 use Rattle.c_type_names.specs.TypeReading as t
 use Rattle.c_type_names.proofs.TypeLaws.{base-Sound, base-Complete, base-Starts, consts-Sound, consts-Complete, stars-Sound, stars-Complete, star-word}

@@ -1,22 +1,22 @@
 -- Statements and blocks at one level: a tree that stands there is what the parser gives.
 use Rattle.std.proofs.Common.{◌≡◌, ℕ, zero, suc, Bool, true, false, ◌&&◌, ◌||◌, not, Option, Some, None, refl, sym, ap, subst, ◌∙◌, arith}
-use Rattle.c_grammar.specs.declared.word.Word.{Word}
-use Rattle.c_grammar.specs.declared.word.Word.TheVariants as w
-use Rattle.c_grammar.specs.declared.word.Leaf.{Leaf}
+use Rattle.c_words.specs.declared.word.Word.{Word}
+use Rattle.c_words.specs.declared.word.Word.TheVariants as w
+use Rattle.c_words.specs.declared.word.Leaf.{Leaf}
 use Rattle.c_grammar.specs.declared.expression.Assign.{Assign}
 use Rattle.c_grammar.specs.declared.statement.ForFirst.{ForFirst}
 use Rattle.c_grammar.specs.declared.statement.ForFirst.TheVariants as f
 use Rattle.c_grammar.specs.declared.statement.Stmt.{Stmt}
 use Rattle.c_grammar.specs.declared.statement.Stmt.TheVariants as s
 use Rattle.c_grammar.specs.declared.statement.Block.{Block}
-use Rattle.c_grammar.specs.Words.{same}
-use Rattle.c_grammar.specs.Written.{Written, nothing, ◌then◌, one, one_of, nested, only, optional, run, Takes}
+use Rattle.c_words.specs.Words.{same}
+use Rattle.c_words.specs.Written.{Written, nothing, ◌then◌, one, one_of, nested, only, optional, run, Takes}
 use Rattle.c_grammar.specs.Expressions.{assign}
 use Rattle.c_grammar.specs.Statements.{for_first, head, shape, block, block_part, stmt, is_dangling}
-use Rattle.c_grammar.specs.Parsing.{Leaves, Outcome, Parser, word_at, take_if, run_at}
-use Rattle.c_grammar.proofs.Taking.{nothing-Takes, Takes-then, then-Takes, nested-Takes, same_is}
-use Rattle.c_grammar.proofs.Reading.{gives_bind, choose, refuse_test, Complete, Ends, Starts, take_if-gives, take_if-word, at_one, word_is}
-use Rattle.c_grammar.proofs.Runs.{run-Complete, CompleteBy}
+use Rattle.c_words.specs.Parsing.{Leaves, Outcome, Parser, word_at, take_if, run_at}
+use Rattle.c_words.proofs.Taking.{nothing-Takes, Takes-then, then-Takes, nested-Takes, same_is}
+use Rattle.c_words.proofs.Reading.{gives_bind, choose, refuse_test, Complete, Ends, Starts, take_if-gives, take_if-word, at_one, word_is}
+use Rattle.c_words.proofs.Runs.{run-Complete, CompleteBy}
 use Rattle.c_expressions.specs.ExpressionReading.{begins_expression, goes_on_assign}
 use Rattle.c_statements.specs.declared.head.Head.{Head}
 use Rattle.c_statements.specs.declared.head.Control.{Control}

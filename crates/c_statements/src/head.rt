@@ -2,7 +2,7 @@
 
 use c_grammar::expression::Assign;
 use c_grammar::statement::ForFirst;
-use c_grammar::word::Leaf;
+use c_words::word::Leaf;
 
 /// A word, and a condition in parentheses.
 #[derive(Drop)]

@@ -3,9 +3,9 @@
 
 ghost use Rattle.std.specs.Prelude.{[], ◌∷◌, ◌++◌};
 ghost use Rattle.c_grammar.specs.declared.statement.BlockPart.TheVariants as b;
-ghost use Rattle.c_grammar.specs.declared.word.Word.TheVariants as w;
-ghost use Rattle.c_grammar.specs.Parsing.{Reads, and_then, pure, run_at};
-ghost use Rattle.c_grammar.specs.Follows.{Nests};
+ghost use Rattle.c_words.specs.declared.word.Word.TheVariants as w;
+ghost use Rattle.c_words.specs.Parsing.{Reads, and_then, pure, run_at};
+ghost use Rattle.c_words.specs.Follows.{Nests};
 ghost use Rattle.c_expressions.specs.ExpressionReading.{deep, inner_at};
 ghost use Rattle.c_type_names.specs.Held.{ReadsAfter};
 ghost use Rattle.c_statements.specs.StatementReading as spec;
@@ -17,11 +17,11 @@ use crate::made::{do_of, for_of, if_else_of, if_of, push_local, push_stmt, while
 use crate::part::begins_part;
 use crate::value::{then_up_to, up_to};
 use c_expressions::expression::assign;
-use c_grammar::cursor::{Cursor, same};
-use c_grammar::fault::ParseFault;
 use c_grammar::statement::{Block, BlockPart, ForFirst, Local, Stmt};
-use c_grammar::word::Word;
 use c_type_names::held::{boxed, then_expect};
+use c_words::cursor::{Cursor, same};
+use c_words::fault::ParseFault;
+use c_words::word::Word;
 use sqlite_items::{Boxed, Items};
 use std::alloc::Global;
 

@@ -1,16 +1,16 @@
 //! Values that may be left out.
 
-ghost use Rattle.c_grammar.specs.Parsing.{Reads};
+ghost use Rattle.c_words.specs.Parsing.{Reads};
 ghost use Rattle.c_expressions.specs.ExpressionReading.{inner_at};
 ghost use Rattle.c_type_names.specs.Held.{ReadsAfter};
 ghost use Rattle.c_statements.specs.StatementReading as spec;
 
 use c_expressions::expression::assign;
-use c_grammar::cursor::{Cursor, same};
 use c_grammar::expression::Assign;
-use c_grammar::fault::ParseFault;
-use c_grammar::word::{Leaf, Word};
 use c_type_names::held::then_expect;
+use c_words::cursor::{Cursor, same};
+use c_words::fault::ParseFault;
+use c_words::word::{Leaf, Word};
 use std::alloc::Global;
 
 /// A value before `stop`.

@@ -2,9 +2,9 @@
 use c_grammar::expression::{Assign, Choice, Sum};
 use c_grammar::program::{Body, Item};
 use c_grammar::statement::{BlockPart, Stmt};
-use c_grammar::word::Word;
 use c_lexer::{Place, lex};
 use c_parser::{Mode, ParseFault, ProgramTree, parse_program};
+use c_words::word::Word;
 use std::test::Fail;
 
 fn parse(

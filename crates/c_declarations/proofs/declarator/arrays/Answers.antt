@@ -1,7 +1,7 @@
 use Rattle.std.proofs.Common.{rules, arith}
 use Rattle.std.proofs.lemmas.Grind.{common_steps}
 use Rattle.c_expressions.specs.ExpressionReading.{inner_at}
-use Rattle.c_grammar.proofs.Turns.{one_more, no_more}
+use Rattle.c_words.proofs.Turns.{one_more, no_more}
 use Rattle.c_declarations.specs.DeclaratorReading.{arrays_from}
 use Rattle.c_declarations.proofs.declarator.arrays.Goals as goal
 

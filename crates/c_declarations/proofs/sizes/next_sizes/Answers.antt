@@ -1,6 +1,6 @@
 use Rattle.std.proofs.Common.{rules, arith}
 use Rattle.std.proofs.lemmas.Grind.{common_steps}
-use Rattle.c_grammar.proofs.Turns.{one_more, no_more}
+use Rattle.c_words.proofs.Turns.{one_more, no_more}
 use Rattle.c_declarations.specs.ParameterReading.{sizes_from}
 use Rattle.c_declarations.proofs.sizes.next_sizes.Goals as goal
 

@@ -1,12 +1,12 @@
 -- Things one after another: both directions.
 use Rattle.std.proofs.Common.{◌≡◌, ℕ, zero, suc, ◌+◌, ◌<◌, ◌≤◌, Bool, true, false, ◌||◌, cond, List, [], ◌∷◌, ◌++◌, length, Option, Some, None, refl, sym, ap, subst, ◌∙◌, ⊎_elim, append_assoc, append-nil, length-append, arith}
-use Rattle.c_grammar.specs.declared.word.Word.{Word}
-use Rattle.c_grammar.specs.declared.word.Word.TheVariants as w
-use Rattle.c_grammar.specs.declared.word.Leaf.{Leaf}
-use Rattle.c_grammar.specs.Written.{Written, nothing, ◌then◌, one, one_of, run, Takes}
-use Rattle.c_grammar.specs.Parsing.{Leaves, Parser, and_then, ◌>>=◌, pure, word_at, take_if, run_from, run_at}
-use Rattle.c_grammar.proofs.Taking.{Takes-nothing, nothing-Takes, Takes-then, then-Takes}
-use Rattle.c_grammar.proofs.Reading.{bind_ok, gives_bind, chosen, choose, refuse_test, same_pair, Sound, Complete, Ends, Starts, first_of_neither, second_of_neither, take_if-takes, take_if-gives, take_if-word}
+use Rattle.c_words.specs.declared.word.Word.{Word}
+use Rattle.c_words.specs.declared.word.Word.TheVariants as w
+use Rattle.c_words.specs.declared.word.Leaf.{Leaf}
+use Rattle.c_words.specs.Written.{Written, nothing, ◌then◌, one, one_of, run, Takes}
+use Rattle.c_words.specs.Parsing.{Leaves, Parser, and_then, ◌>>=◌, pure, word_at, take_if, run_from, run_at}
+use Rattle.c_words.proofs.Taking.{Takes-nothing, nothing-Takes, Takes-then, then-Takes}
+use Rattle.c_words.proofs.Reading.{bind_ok, gives_bind, chosen, choose, refuse_test, same_pair, Sound, Complete, Ends, Starts, first_of_neither, second_of_neither, take_if-takes, take_if-gives, take_if-word}
 
 module _ {A : Type 0} (begins : Word → Bool) (item : Parser A) (f : A → Written) (k : ℕ) (sound : Sound k item f) (some : 0 < k) where
   record More (found : List A) (ts : Leaves) (all : List A) (rest : Leaves) : Type 0 where

@@ -1,13 +1,13 @@
 -- Chains: both directions between a parser and what its chains write.
 use Rattle.std.proofs.Common.{◌≡◌, ℕ, zero, suc, ◌+◌, ◌<◌, ◌≤◌, Bool, true, false, ◌||◌, cond, List, [], ◌∷◌, ◌++◌, length, Option, Some, None, refl, sym, ap, ap₂, subst, ◌∙◌, ◌⊎◌, ⊎_elim, append_assoc, append-nil, length-append, arith}
-use Rattle.c_grammar.specs.declared.word.Word.{Word}
-use Rattle.c_grammar.specs.declared.word.Leaf.{Leaf}
-use Rattle.c_grammar.specs.declared.chain.Chain.{Chain}
-use Rattle.c_grammar.specs.declared.chain.Link.{Link}
-use Rattle.c_grammar.specs.Written.{Written, nothing, ◌then◌, one_of, links, chain, Takes}
-use Rattle.c_grammar.specs.Parsing.{Leaves, Outcome, Parser, and_then, ◌>>=◌, pure, word_at, after, take_if, links_from, chain_by, chain_at, next_is}
-use Rattle.c_grammar.proofs.Taking.{Takes-nothing, nothing-Takes, Takes-then, Split, then-Takes, Takes-one, one-Takes}
-use Rattle.c_grammar.proofs.Reading.{bind_ok, gives_bind, chosen, choose, refuse_test, same_pair, first_of_neither, second_of_neither, Sound, Complete, Ends, Starts, take_if-takes, take_if-gives, take_if-word, after-one}
+use Rattle.c_words.specs.declared.word.Word.{Word}
+use Rattle.c_words.specs.declared.word.Leaf.{Leaf}
+use Rattle.c_words.specs.declared.chain.Chain.{Chain}
+use Rattle.c_words.specs.declared.chain.Link.{Link}
+use Rattle.c_words.specs.Written.{Written, nothing, ◌then◌, one_of, links, chain, Takes}
+use Rattle.c_words.specs.Parsing.{Leaves, Outcome, Parser, and_then, ◌>>=◌, pure, word_at, after, take_if, links_from, chain_by, chain_at, next_is}
+use Rattle.c_words.proofs.Taking.{Takes-nothing, nothing-Takes, Takes-then, Split, then-Takes, Takes-one, one-Takes}
+use Rattle.c_words.proofs.Reading.{bind_ok, gives_bind, chosen, choose, refuse_test, same_pair, first_of_neither, second_of_neither, Sound, Complete, Ends, Starts, take_if-takes, take_if-gives, take_if-word, after-one}
 
 module _ {A : Type 0} (more_is : Leaves → Bool) (op : Word → Bool) (operand : Parser A) (f : A → Written) (k : ℕ) (sound : Sound k operand f) (some : 0 < k) where
   record More (found : List (Link A)) (ts : Leaves) (all : List (Link A)) (rest : Leaves) : Type 0 where

@@ -1,8 +1,8 @@
 use Rattle.std.proofs.Common.{◌≡◌, [], ◌∙◌, sym, ap, arith}
 use Rattle.std.specs.Str.{bytes_eq}
-use Rattle.c_grammar.specs.declared.word.Word.TheVariants as w
-use Rattle.c_grammar.proofs.WordTables.{entry_found, entry_passed, no_entry}
-use Rattle.c_grammar.proofs.leaf.word_in.Goals as goal
+use Rattle.c_words.specs.declared.word.Word.TheVariants as w
+use Rattle.c_words.proofs.WordTables.{entry_found, entry_passed, no_entry}
+use Rattle.c_words.proofs.leaf.word_in.Goals as goal
 
 pub returns-then-eq : goal.returns-then-eq
 returns-then-eq c =

@@ -1,7 +1,7 @@
 //! The leaves of a text's tokens.
 
 ghost use Rattle.std.specs.Prelude.{◌≡◌, ◌-◌, ℕ, List, [], ◌∷◌, map, take, drop, codes, IfOk};
-ghost use Rattle.c_grammar.specs.Words as spec;
+ghost use Rattle.c_words.specs.Words as spec;
 
 use crate::word::{Leaf, Mode, Word};
 use c_lexer::{Token, TokenKind};

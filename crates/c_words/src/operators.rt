@@ -1,8 +1,8 @@
 //! Operators of chains.
 
 ghost use Rattle.std.specs.Prelude.{◌≡◌};
-ghost use Rattle.c_grammar.specs.Operators.{has, is_binary_operator};
-ghost use Rattle.c_grammar.specs.Expressions.{is_relation_operator, is_assignment_operator, is_prefix_operator};
+ghost use Rattle.c_words.specs.Operators.{has, is_binary_operator};
+ghost use Rattle.c_words.specs.OperatorWords.{is_relation_operator, is_assignment_operator, is_prefix_operator};
 
 use crate::word::Word;
 

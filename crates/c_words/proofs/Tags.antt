@@ -1,9 +1,9 @@
 -- The number of a word as the code has it.
 use Rattle.std.proofs.Common.{◌≡◌, ℕ, refl}
-use Rattle.c_grammar.specs.declared.word.Word.{Word}
-use Rattle.c_grammar.specs.declared.word.Word.TheVariants as w
-use Rattle.c_grammar.specs.contracts.word.Word.{the_type}
-use Rattle.c_grammar.specs.Words.{index}
+use Rattle.c_words.specs.declared.word.Word.{Word}
+use Rattle.c_words.specs.declared.word.Word.TheVariants as w
+use Rattle.c_words.specs.contracts.word.Word.{the_type}
+use Rattle.c_words.specs.Words.{index}
 use denote.Enum.Declared.{tag_of}
 
 pub tag_is_index : (a : Word) → tag_of the_type a ≡ index a

@@ -15,7 +15,7 @@ pub enum ParseFault {
 
 impl ParseFault {
     ghost use Rattle.std.specs.Prelude.{◌≡◌};
-    ghost use Rattle.c_grammar.specs.Parsing.{refusal_of};
+    ghost use Rattle.c_words.specs.Parsing.{refusal_of};
 
     /// The number of the fault, 111, and its place; `None` for want of memory.
     pub fn refusal(self) -> Option<Refusal>
@@ -30,7 +30,7 @@ impl ParseFault {
 
 impl From<AllocError> for ParseFault {
     ghost use Rattle.std.specs.Prelude.{◌≡◌};
-    ghost use Rattle.c_grammar.specs.declared.fault.ParseFault.TheVariants.{Memory};
+    ghost use Rattle.c_words.specs.declared.fault.ParseFault.TheVariants.{Memory};
 
     ghost from_gives = { λ _ fault. fault ≡ Memory };
 

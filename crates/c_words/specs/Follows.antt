@@ -2,8 +2,8 @@
 use Rattle.std.specs.Prelude.{ℕ, Result}
 use Rattle.std.specs.declared.alloc.Global.{Global}
 use denote.Ref.{MutBor}
-use Rattle.c_grammar.specs.declared.fault.ParseFault.{ParseFault}
-use Rattle.c_grammar.specs.Parsing.{Leaves, Parser, Reads}
+use Rattle.c_words.specs.declared.fault.ParseFault.{ParseFault}
+use Rattle.c_words.specs.Parsing.{Leaves, Parser, Reads}
 
 pub record Follows {A : Type 0} (parser : Parser A) (post : MutBor Leaves → Result A ParseFault → MutBor Leaves → Type 0) : Type 0 where
   pub reads : (old new : MutBor Leaves) (r : Result A ParseFault) → post old r new → Reads (parser old.now) r new.now

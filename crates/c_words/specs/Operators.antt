@@ -1,12 +1,12 @@
 -- The words of each set of operators, and when a chain goes on.
 use Rattle.std.specs.Prelude.{Bool, true, false, not, ◌&&◌, ◌||◌}
-use Rattle.c_grammar.specs.declared.word.Word.{Word}
-use Rattle.c_grammar.specs.declared.word.Word.TheVariants as w
-use Rattle.c_grammar.specs.declared.operators.Operators.{Operators}
-use Rattle.c_grammar.specs.declared.operators.Operators.TheVariants as o
-use Rattle.c_grammar.specs.Words.{same}
-use Rattle.c_grammar.specs.Expressions.{is_comma, is_product_operator, is_sum_operator, is_shift_operator, is_relation_operator, is_equal_operator, is_assignment_operator, is_prefix_operator}
-use Rattle.c_grammar.specs.Parsing.{Leaves, word_at, after}
+use Rattle.c_words.specs.declared.word.Word.{Word}
+use Rattle.c_words.specs.declared.word.Word.TheVariants as w
+use Rattle.c_words.specs.declared.operators.Operators.{Operators}
+use Rattle.c_words.specs.declared.operators.Operators.TheVariants as o
+use Rattle.c_words.specs.Words.{same}
+use Rattle.c_words.specs.OperatorWords.{is_comma, is_product_operator, is_sum_operator, is_shift_operator, is_relation_operator, is_equal_operator, is_assignment_operator, is_prefix_operator}
+use Rattle.c_words.specs.Parsing.{Leaves, word_at, after}
 
 -- an operator of any of the ten levels
 abbrev pub is_binary_operator : Word → Bool

@@ -5,9 +5,9 @@ use Rattle.std.proofs.Math.Seq.{take-suc}
 use Rattle.std.proofs.lemmas.List.{map-append}
 use Rattle.std.proofs.lemmas.List.Elements.{filter-append}
 use Rattle.c_lexer.specs.declared.token.Token.{Token}
-use Rattle.c_grammar.specs.declared.word.Mode.{Mode}
-use Rattle.c_grammar.specs.declared.word.Leaf.{Leaf}
-use Rattle.c_grammar.specs.Words.{is_kept, leaf_of, leaves_of}
+use Rattle.c_words.specs.declared.word.Mode.{Mode}
+use Rattle.c_words.specs.declared.word.Leaf.{Leaf}
+use Rattle.c_words.specs.Words.{is_kept, leaf_of, leaves_of}
 
 module _ (m : Mode) (text : List ℕ) where
   leaves-append : (ts us : List Token) → leaves_of m text (ts ++ us) ≡ leaves_of m text ts ++ leaves_of m text us

@@ -1,12 +1,12 @@
 -- How what a tree takes is made of what its parts take.
 use Rattle.std.proofs.Common.{◌≡◌, ℕ, suc, ◌+◌, ◌<◌, ◌≤◌, max, Bool, true, false, ◌&&◌, List, [], ◌∷◌, ◌++◌, length, get_or, refl, sym, ap, ap₂, ◌∙◌, append_assoc, append-nil, length-append, arith}
 use Rattle.std.proofs.lemmas.Bool.Decides.{nat_tests}
-use Rattle.c_grammar.specs.declared.word.Word.{Word}
-use Rattle.c_grammar.specs.declared.word.Word.TheVariants as w
-use Rattle.c_grammar.specs.declared.word.Leaf.{Leaf}
-use Rattle.c_grammar.specs.declared.chain.Link.{Link}
-use Rattle.c_grammar.specs.Words.{index, same}
-use Rattle.c_grammar.specs.Written.{Written, nothing, ◌then◌, one_of, nested, links, chain, Takes}
+use Rattle.c_words.specs.declared.word.Word.{Word}
+use Rattle.c_words.specs.declared.word.Word.TheVariants as w
+use Rattle.c_words.specs.declared.word.Leaf.{Leaf}
+use Rattle.c_words.specs.declared.chain.Link.{Link}
+use Rattle.c_words.specs.Words.{index, same}
+use Rattle.c_words.specs.Written.{Written, nothing, ◌then◌, one_of, nested, links, chain, Takes}
 
 words : List Word
 words =

@@ -1,6 +1,6 @@
 use Rattle.std.proofs.Common.{◌≡◌, ℕ, List, map, drop}
-use Rattle.c_grammar.specs.Words as spec
-use Rattle.c_grammar.proofs.leaf.word_in.Given as goal
+use Rattle.c_words.specs.Words as spec
+use Rattle.c_words.proofs.leaf.word_in.Given as goal
 
 abbrev pub invariant-loop-spelling : goal.invariant-loop-spelling
 invariant-loop-spelling l =

@@ -1,10 +1,10 @@
 //! The leaves that are left to read.
 
 ghost use Rattle.std.specs.Prelude.{◌≡◌, length};
-ghost use Rattle.c_grammar.specs.Words.{same as same_word};
-ghost use Rattle.c_grammar.specs.Operators.{has, continues};
-ghost use Rattle.c_grammar.specs.Parsing as spec;
-ghost use Rattle.c_grammar.specs.Parsing.{Reads};
+ghost use Rattle.c_words.specs.Words.{same as same_word};
+ghost use Rattle.c_words.specs.Operators.{has, continues};
+ghost use Rattle.c_words.specs.Parsing as spec;
+ghost use Rattle.c_words.specs.Parsing.{Reads};
 
 use crate::fault::ParseFault;
 use crate::operators::Operators;
@@ -19,7 +19,7 @@ pub struct Cursor<'a> {
 
 impl<'a> Model for Cursor<'a> {
     ghost use Rattle.std.specs.Prelude.{List};
-    ghost use Rattle.c_grammar.specs.declared.word.Leaf.{Leaf};
+    ghost use Rattle.c_words.specs.declared.word.Leaf.{Leaf};
 
     ghost Value = { List Leaf };
 

@@ -1,14 +1,14 @@
 -- Parsers as functions on lists of leaves: what the contracts of the reading crates say that a call reads. That of a whole program names none of them.
 use Rattle.std.specs.Prelude.{◌≡◌, ℕ, zero, suc, Bool, true, false, not, ◌&&◌, if◌then◌else◌, List, [], ◌∷◌, ◌++◌, length, Option, Some, None, Result, Ok, Err}
 use Rattle.c_lexer.specs.declared.token.Refusal.{Refusal}
-use Rattle.c_grammar.specs.declared.word.Word.{Word}
-use Rattle.c_grammar.specs.declared.word.Word.TheVariants as w
-use Rattle.c_grammar.specs.declared.word.Leaf.{Leaf}
-use Rattle.c_grammar.specs.declared.chain.Chain.{Chain}
-use Rattle.c_grammar.specs.declared.chain.Link.{Link}
-use Rattle.c_grammar.specs.declared.fault.ParseFault.{ParseFault}
-use Rattle.c_grammar.specs.declared.fault.ParseFault.TheVariants as fault
-use Rattle.c_grammar.specs.Words.{same}
+use Rattle.c_words.specs.declared.word.Word.{Word}
+use Rattle.c_words.specs.declared.word.Word.TheVariants as w
+use Rattle.c_words.specs.declared.word.Leaf.{Leaf}
+use Rattle.c_words.specs.declared.chain.Chain.{Chain}
+use Rattle.c_words.specs.declared.chain.Link.{Link}
+use Rattle.c_words.specs.declared.fault.ParseFault.{ParseFault}
+use Rattle.c_words.specs.declared.fault.ParseFault.TheVariants as fault
+use Rattle.c_words.specs.Words.{same}
 
 abbrev pub Leaves : Type 0
 Leaves = List Leaf

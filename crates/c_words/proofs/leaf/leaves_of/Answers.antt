@@ -1,9 +1,9 @@
 use Rattle.std.proofs.Common.{◌≡◌, [], ◌∷◌, ◌++◌, true, false, ◌∙◌, sym, ap, ap₂, arith}
 use Rattle.std.proofs.Math.Seq.{take-suc}
-use Rattle.c_grammar.specs.Words.{is_kept, leaves_of}
-use Rattle.c_grammar.proofs.LeafLaws.{leaves-kept, leaves-dropped}
-use Rattle.c_grammar.proofs.leaf.leaves_of.Goals as goal
-use Rattle.c_grammar.proofs.leaf.leaves_of.Goals.{then-is_kept+in_ok-push, else-is_kept}
+use Rattle.c_words.specs.Words.{is_kept, leaves_of}
+use Rattle.c_words.proofs.LeafLaws.{leaves-kept, leaves-dropped}
+use Rattle.c_words.proofs.leaf.leaves_of.Goals as goal
+use Rattle.c_words.proofs.leaf.leaves_of.Goals.{then-is_kept+in_ok-push, else-is_kept}
 
 pub loop-token-init : goal.loop-token-init
 unfolding leaves_of

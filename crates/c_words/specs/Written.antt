@@ -1,10 +1,10 @@
 -- What a part of a tree writes: its leaves, how deep it nests, and whether each leaf has the word that its alternative names.
 use Rattle.std.specs.Prelude.{◌≡◌, ℕ, zero, suc, ◌<◌, max, Bool, true, false, ◌&&◌, List, [], ◌∷◌, ◌++◌, Option, Some, None}
-use Rattle.c_grammar.specs.declared.word.Word.{Word}
-use Rattle.c_grammar.specs.declared.word.Leaf.{Leaf}
-use Rattle.c_grammar.specs.declared.chain.Chain.{Chain}
-use Rattle.c_grammar.specs.declared.chain.Link.{Link}
-use Rattle.c_grammar.specs.Words.{same}
+use Rattle.c_words.specs.declared.word.Word.{Word}
+use Rattle.c_words.specs.declared.word.Leaf.{Leaf}
+use Rattle.c_words.specs.declared.chain.Chain.{Chain}
+use Rattle.c_words.specs.declared.chain.Link.{Link}
+use Rattle.c_words.specs.Words.{same}
 
 pub record Written : Type 0 where
   pub leaves : List Leaf
