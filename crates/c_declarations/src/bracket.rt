@@ -5,8 +5,8 @@ ghost use Rattle.c_expressions.specs.ExpressionReading.{inner_at};
 ghost use Rattle.c_declarations.specs.Brackets as spec;
 ghost use Rattle.c_type_names.specs.Held.{ReadsAfter};
 
-use c_expressions::expression::choice;
-use c_grammar::expression::Choice;
+use c_expressions::expression::whole_conditional;
+use c_grammar::whole::Conditional;
 use c_type_names::held::then_expect;
 use c_words::cursor::Cursor;
 use c_words::fault::ParseFault;
@@ -17,7 +17,7 @@ use std::alloc::Global;
 #[derive(Drop)]
 pub struct Bracket {
     pub left: Leaf,
-    pub size: Choice,
+    pub size: Conditional,
     pub right: Leaf,
 }
 
@@ -31,7 +31,7 @@ pub fn bracketed(
     ensures { Reads (spec.bracketed (inner_at inside).choice tokens.old) result tokens.new }
 {
     let left = tokens.expect(Word::LeftBracket)?;
-    let size = choice(alloc, tokens, inside)?;
+    let size = whole_conditional(alloc, tokens, inside)?;
     let (size, right) = then_expect(size, tokens, Word::RightBracket)?;
     Ok(Bracket { left, size, right })
 }

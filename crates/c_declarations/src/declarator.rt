@@ -63,7 +63,7 @@ fn array(
 {
     let before = found.nesting();
     let (found, bracket) = then_bracketed(found, alloc, tokens, inside)?;
-    let inner = deepest(before, &bracket.size, inside);
+    let inner = deepest(before, bracket.size.get(), inside);
     Ok(MeasuredDirect::array(
         alloc,
         found,

@@ -6,7 +6,7 @@ ghost use Rattle.c_words.specs.Parsing.{Reads};
 ghost use Rattle.c_type_names.specs.Held.{ReadsAfter};
 ghost use Rattle.c_declarations.specs.DeclaredReading as spec;
 
-use c_expressions::expression::assign;
+use c_expressions::expression::whole_expression;
 use c_grammar::declaration::Init;
 use c_type_names::chain::{Operand, chain};
 use c_type_names::held::{then_expect, then_optional};
@@ -72,7 +72,7 @@ pub fn init(alloc: Global, tokens: &mut Cursor<'_>, depth: usize) -> Result<Init
         return Err(tokens.refuse());
     }
     if !same(Word::LeftBrace, tokens.peek()) {
-        return Ok(Init::Value(assign(alloc, tokens, depth)?));
+        return Ok(Init::Value(whole_expression(alloc, tokens, depth)?));
     }
     if depth == 1 {
         return Err(tokens.refuse());

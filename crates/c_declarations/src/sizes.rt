@@ -33,7 +33,7 @@ fn some_size(
     ensures { Reads (spec.some_size inside tokens.old) result tokens.new }
 {
     let bracket = bracketed(alloc, tokens, inside)?;
-    let inner = deepest(0, &bracket.size, inside);
+    let inner = deepest(0, bracket.size.get(), inside);
     Ok(MeasuredSizes::first(bracket.left, bracket.size, bracket.right, inner))
 }
 
@@ -66,7 +66,7 @@ fn next_size(
 {
     let before = found.nesting();
     let (found, bracket) = then_bracketed(found, alloc, tokens, inside)?;
-    let inner = deepest(before, &bracket.size, inside);
+    let inner = deepest(before, bracket.size.get(), inside);
     Ok(MeasuredSizes::next(
         alloc,
         found,

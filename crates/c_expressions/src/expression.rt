@@ -16,6 +16,7 @@ ghost use Rattle.c_expressions.specs.ExpressionReading as spec;
 
 use c_grammar::expression::{Assign, Choice, Or, Postfix, Primary, Suffix, Unary};
 use c_grammar::types::TypeName;
+use c_grammar::whole::{Conditional, Expression};
 use c_grouping::group::{Flat, boxed_or_of};
 use c_type_names::chain::{Operand, Part, chain, links, run};
 use c_type_names::held::{instead, then_expect, then_operator, unless_refused};
@@ -722,4 +723,28 @@ fn unary(alloc: Global, tokens: &mut Cursor<'_>, depth: usize) -> Result<Unary, 
         unary,
     }
     .unary(tokens)
+}
+
+/// An expression that nests below the number, as other trees hold it.
+pub fn whole_expression(
+    alloc: Global,
+    tokens: &mut Cursor<'_>,
+    depth: usize,
+) -> Result<Expression, ParseFault>
+    ensures { Reads ((spec.inner_at depth).assign tokens.old) result tokens.new }
+{
+    let found = assign(alloc, tokens, depth)?;
+    Ok(Expression::new(alloc, found)?)
+}
+
+/// A conditional expression that nests below the number, as other trees hold it.
+pub fn whole_conditional(
+    alloc: Global,
+    tokens: &mut Cursor<'_>,
+    depth: usize,
+) -> Result<Conditional, ParseFault>
+    ensures { Reads ((spec.inner_at depth).choice tokens.old) result tokens.new }
+{
+    let found = choice(alloc, tokens, depth)?;
+    Ok(Conditional::new(alloc, found)?)
 }

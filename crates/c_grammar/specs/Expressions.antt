@@ -21,6 +21,7 @@ use Rattle.c_grammar.specs.declared.expression.Product.{Product, fold-Product}
 use Rattle.c_grammar.specs.declared.expression.Relation.{Relation, fold-Relation}
 use Rattle.c_grammar.specs.declared.expression.Shift.{Shift, fold-Shift}
 use Rattle.c_grammar.specs.declared.expression.Sum.{Sum, fold-Sum}
+use Rattle.c_words.specs.OperatorWords.{is_comma, is_product_operator, is_sum_operator, is_shift_operator, is_relation_operator, is_equal_operator, is_prefix_operator, is_assignment_operator}
 use Rattle.c_words.specs.Words.{same}
 use Rattle.c_words.specs.Written.{Written, nothing, ◌then◌, one, one_of, nested, only, optional, run, chain}
 use Rattle.c_grammar.specs.Types.{type_name}

@@ -7,3 +7,4 @@ pub mod measured;
 pub mod program;
 pub mod statement;
 pub mod types;
+pub mod whole;

@@ -16,7 +16,7 @@ use crate::local::{begins_local, local};
 use crate::made::{do_of, for_of, if_else_of, if_of, push_local, push_stmt, while_of};
 use crate::part::begins_part;
 use crate::value::{then_up_to, up_to};
-use c_expressions::expression::assign;
+use c_expressions::expression::whole_expression;
 use c_grammar::statement::{Block, BlockPart, ForFirst, Local, Stmt};
 use c_type_names::held::{boxed, then_expect};
 use c_words::cursor::{Cursor, same};
@@ -101,7 +101,7 @@ impl<S: Fn(Global, &mut Cursor<'_>, usize) -> Result<Boxed<Stmt>, ParseFault>> S
     fn expression(&self, tokens: &mut Cursor<'_>) -> Result<Boxed<Stmt>, ParseFault>
         ensures { Reads (at_level spec.expression self.now.here self.now.inside tokens.old) result tokens.new }
     {
-        let value = assign(self.alloc, tokens, self.here)?;
+        let value = whole_expression(self.alloc, tokens, self.here)?;
         let (value, semicolon) = then_expect(value, tokens, Word::Semicolon)?;
         boxed(self.alloc, Stmt::Expression(value, semicolon))
     }
@@ -142,7 +142,7 @@ impl<S: Fn(Global, &mut Cursor<'_>, usize) -> Result<Boxed<Stmt>, ParseFault>> S
     {
         let first = tokens.expect(word)?;
         let opening = tokens.expect(Word::LeftParen)?;
-        let test = assign(self.alloc, tokens, self.inside)?;
+        let test = whole_expression(self.alloc, tokens, self.inside)?;
         let (test, closing) = then_expect(test, tokens, Word::RightParen)?;
         boxed(
             self.alloc,

@@ -5,8 +5,8 @@ ghost use Rattle.c_expressions.specs.ExpressionReading.{inner_at};
 ghost use Rattle.c_type_names.specs.Held.{ReadsAfter};
 ghost use Rattle.c_statements.specs.StatementReading as spec;
 
-use c_expressions::expression::assign;
-use c_grammar::expression::Assign;
+use c_expressions::expression::whole_expression;
+use c_grammar::whole::Expression;
 use c_type_names::held::then_expect;
 use c_words::cursor::{Cursor, same};
 use c_words::fault::ParseFault;
@@ -20,13 +20,13 @@ fn unless(
     tokens: &mut Cursor<'_>,
     stop: Word,
     depth: usize,
-) -> Result<Option<Assign>, ParseFault>
+) -> Result<Option<Expression>, ParseFault>
     ensures { Reads (spec.unless stop (inner_at depth).assign tokens.old) result tokens.new }
 {
     if same(stop, tokens.peek()) {
         return Ok(None);
     }
-    let value = assign(alloc, tokens, depth)?;
+    let value = whole_expression(alloc, tokens, depth)?;
     Ok(Some(value))
 }
 
@@ -37,7 +37,7 @@ pub fn up_to(
     tokens: &mut Cursor<'_>,
     stop: Word,
     depth: usize,
-) -> Result<(Option<Assign>, Leaf), ParseFault>
+) -> Result<(Option<Expression>, Leaf), ParseFault>
     ensures { Reads (spec.up_to stop (inner_at depth).assign tokens.old) result tokens.new }
 {
     let value = unless(alloc, tokens, stop, depth)?;
@@ -51,7 +51,7 @@ pub fn then_up_to<T: Drop>(
     tokens: &mut Cursor<'_>,
     stop: Word,
     depth: usize,
-) -> Result<(T, (Option<Assign>, Leaf)), ParseFault>
+) -> Result<(T, (Option<Expression>, Leaf)), ParseFault>
     ensures { ReadsAfter held (spec.up_to stop (inner_at depth).assign tokens.old) result tokens.new }
 {
     let found = up_to(alloc, tokens, stop, depth)?;

@@ -475,7 +475,7 @@ fn has_chain(value: &Assign) -> bool {
 
 fn is_chain(parts: &[BlockPart]) -> bool {
     match parts {
-        [BlockPart::Stmt(Stmt::Expression(value, _))] => has_chain(value),
+        [BlockPart::Stmt(Stmt::Expression(value, _))] => has_chain(value.get()),
         _ => false,
     }
 }
