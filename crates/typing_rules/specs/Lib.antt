@@ -1,0 +1,13 @@
+pub mod Syntax
+pub mod TreesOfExpressions
+pub mod TreesOfDeclarations
+pub mod Checked
+pub mod Environment
+pub mod Judgements
+pub mod Operands
+pub mod Operators
+pub mod Assignments
+pub mod Subobjects
+pub mod Allocation
+pub mod Nodes
+pub mod Expressions
