@@ -11,3 +11,12 @@ pub mod Subobjects
 pub mod Allocation
 pub mod Nodes
 pub mod Expressions
+pub mod ConstantExpressions
+pub mod Declarations
+pub mod Initialisers
+pub mod Statements
+pub mod Weights
+pub mod FileScope
+pub mod Structs
+pub mod Functions
+pub mod Programs
