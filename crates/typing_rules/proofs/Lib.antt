@@ -1,1 +1,3 @@
 pub mod Shapes
+mod ExampleTexts
+mod WorkedExamples
