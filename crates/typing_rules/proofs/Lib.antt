@@ -1,3 +1,10 @@
 pub mod Shapes
 mod ExampleTexts
 mod WorkedExamples
+mod NameExamples
+mod TypeExamples
+mod OperatorExamples
+mod AssignmentExamples
+mod AllocationExamples
+mod InitialiserExamples
+mod StatementExamples
