@@ -8,3 +8,5 @@ mod AssignmentExamples
 mod AllocationExamples
 mod InitialiserExamples
 mod StatementExamples
+mod LimitExamples
+mod CoreExamples
