@@ -1,4 +1,5 @@
 pub mod Shapes
+pub mod ExpressionAlternatives
 mod ExampleTexts
 mod WorkedExamples
 mod NameExamples
