@@ -1,5 +1,7 @@
 pub mod Shapes
 pub mod ExpressionAlternatives
+pub mod DeclarationAlternatives
+pub mod StatementAlternatives
 mod ExampleTexts
 mod WorkedExamples
 mod NameExamples

@@ -25,7 +25,7 @@ pub record Request : Type 0 where
   pub ctype : CType
 
 -- the type of an operand that isn't evaluated: an array stays one (C11 6.3.2.1, 3)
-abbrev type_of_object : What → CType
+abbrev pub type_of_object : What → CType
 type_of_object (At p t) = t
 type_of_object (Made o x t) = t
 

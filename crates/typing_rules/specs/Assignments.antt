@@ -30,7 +30,7 @@ pub record Target : Type 0 where
   pub place : Place_
   pub ctype : CType
 
-abbrev target_of : What → Option Target
+abbrev pub target_of : What → Option Target
 target_of (At p t) = if is_scalar_shape (shape t) then Some (record { place = p; ctype = t }) else None
 target_of w = None
 

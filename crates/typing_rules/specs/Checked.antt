@@ -7,7 +7,7 @@ use Rattle.typing_rules.specs.declared.fault.TypeFault.TheVariants as fault
 
 -- ---- faults
 
-abbrev refused : ℕ → Place → Option Refusal
+abbrev pub refused : ℕ → Place → Option Refusal
 refused code place = Some (record { code = code; place = place })
 
 -- the number of the fault and its place, and none for want of memory

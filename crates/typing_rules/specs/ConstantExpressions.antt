@@ -36,11 +36,11 @@ infixl 10 ◌>>=◌
 abbrev ◌>>=◌ : {A B : Type 0} → Option A → (A → Option B) → Option B
 o >>= f = option_and_then f o
 
-abbrev without_fault : Result ℤ RunFault → Option ℤ
+abbrev pub without_fault : Result ℤ RunFault → Option ℤ
 without_fault (Ok z) = Some z
 without_fault (Err f) = None
 
-abbrev truth : Bool → ℤ
+abbrev pub truth : Bool → ℤ
 truth b = if b then pos 1 else pos 0
 
 -- the value, where it makes no fault. `&&`, `||` and `?:` evaluate what they need (C11 6.5.13, 4; 6.5.14, 4; 6.5.15, 4)
@@ -60,7 +60,7 @@ unfoldable pub constant : Expr → Option ℤ
 constant x = if is_constant x then value_of x else None
 
 -- the size of an array: 1 or more (C11 6.7.6.2, 1)
-abbrev positive : Option ℤ → Option ℕ
+abbrev pub positive : Option ℤ → Option ℕ
 positive (Some (pos (suc n))) = Some (suc n)
 positive _ = None
 
@@ -76,10 +76,10 @@ pub record Part : Type 0 where
   pub ctype : CType
 
 module _ (layouts : List Layout) (globals : List Declared) where
-  abbrev member_part : ℕ → Part → Option Part
+  abbrev pub member_part : ℕ → Part → Option Part
   member_part o p = option_map (λ t. record { index = p.index; offset = p.offset + o; ctype = t }) (member_type layouts p.ctype o)
 
-  abbrev element_part : ℕ → ℕ → Part → Option Part
+  abbrev pub element_part : ℕ → ℕ → Part → Option Part
   element_part n size p = if nat_lt n (element_count p.ctype)
       then option_map (λ t. record { index = p.index; offset = p.offset + n * size; ctype = t }) (element_type layouts p.ctype size)
       else None
@@ -91,15 +91,15 @@ module _ (layouts : List Layout) (globals : List Declared) where
   part_of (Index' b (more_of-Place_ p end_of-Place_) c (more_of-Expr (Literal k (pos n)) end_of-Expr) size) = part_of p >>= element_part n size
   part_of _ = None
 
-  abbrev is_variable : Place_ → Bool
+  abbrev pub is_variable : Place_ → Bool
   is_variable (Own v) = true
   is_variable p = false
 
-  abbrev pointer_at : Part → Value
+  abbrev pub pointer_at : Part → Value
   pointer_at p = value.Pointer (record { kind = Global; activation = 0; index = p.index }) p.offset
 
   -- the address of a part by `&`, or an array by its name alone
-  abbrev address_of : Place_ → CType → Option Value
+  abbrev pub address_of : Place_ → CType → Option Value
   address_of p t = part_of p >>= (λ q. where_true (if same_type t q.ctype then true else is_variable p) (pointer_at q))
 
   -- what an expression of this type gives a cell of a variable of file scope

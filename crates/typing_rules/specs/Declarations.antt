@@ -42,7 +42,7 @@ layers g count (ArrayOf x ∷ ms) = do
   ls ← layers g count ms
   Ok (Sized n ∷ ls)
 
-abbrev array_of : CType → ℕ → CType
+abbrev pub array_of : CType → ℕ → CType
 array_of t n = type.Array' tt (more_of-CType t end_of-CType) n
 
 -- the type of a name whose modifiers are these, from the name outwards

@@ -46,7 +46,7 @@ bytes_in s t = words.bytes_of s.text t.token
 abbrev pub contains : List (List ℕ) → List ℕ → Bool
 contains names name = list_any (bytes_eq name) names
 
-abbrev is_source : Mode → Bool
+abbrev pub is_source : Mode → Bool
 is_source mode.Source = true
 is_source mode.Woven = false
 
@@ -60,7 +60,7 @@ unfoldable pub found_in : Scope → List ℕ → Option Entry
 found_in [] name = None
 found_in (p ∷ ps) name = if bytes_eq p.0 name then Some p.1 else found_in ps name
 
-abbrev or_else : Option Entry → Option Entry → Option Entry
+abbrev pub or_else : Option Entry → Option Entry → Option Entry
 or_else (Some x) o = Some x
 or_else None o = o
 

@@ -41,19 +41,19 @@ use Rattle.typing_rules.specs.Allocation.{Request, operand_type, one_object, pro
 
 -- ---- constants (C11 6.4.4)
 
-abbrev kind_of : ConstantType → IntKind
+abbrev pub kind_of : ConstantType → IntKind
 kind_of constant.Int = kind.Int
 kind_of constant.UnsignedInt = kind.UInt
 kind_of constant.Long = kind.Long
 kind_of constant.UnsignedLong = kind.ULong
 
 -- a token that is a number is a constant: the lexer lets no other through
-abbrev literal : Place → Option IntegerConstant → Operand
+abbrev pub literal : Place → Option IntegerConstant → Operand
 literal at None = made at (e.Literal kind.Int (pos 0)) int
 literal at (Some c) = made at (e.Literal (kind_of c.kind) (pos c.value)) (type.Int (kind_of c.kind))
 
 -- the literal `0` is the token `0`
-abbrev numbered : Place → List ℕ → Operand
+abbrev pub numbered : Place → List ℕ → Operand
 numbered at bytes = if bytes_eq bytes (codes "0") then zero_literal at else literal at (constant_of bytes)
 
 -- ---- the library (C11 7.21.7.6, 7.21.7.8, 7.22.3.4, 7.22.3.3)
@@ -62,25 +62,25 @@ numbered at bytes = if bytes_eq bytes (codes "0") then zero_literal at else lite
 abbrev pub is_library_number : ℕ → Bool
 is_library_number f = nat_lt f 4
 
-abbrev is_malloc_number : ℕ → Bool
+abbrev pub is_malloc_number : ℕ → Bool
 is_malloc_number f = f == 2
 
-abbrev is_free_number : ℕ → Bool
+abbrev pub is_free_number : ℕ → Bool
 is_free_number f = f == 3
 
-abbrev is_star : Leaf → Bool
+abbrev pub is_star : Leaf → Bool
 is_star t = same w.Star t.word
 
 -- ---- expressions in an environment
 
 module _ (s : Environment) where
-  abbrev named : Leaf → Entry → Checked Operand
+  abbrev pub named : Leaf → Entry → Checked Operand
   named t (Variable v u) = Ok (at_place (place_of t) (e.Own v) u)
   named t (Function f r ts) = Err (Mismatch (place_of t))
 
   -- ---- calls (C11 6.5.2.2)
 
-  abbrev called_core : ℕ → List Expr → Expr
+  abbrev pub called_core : ℕ → List Expr → Expr
   called_core f xs = if f == 0 then e.GetChar else (if f == 1 then put xs else e.Invoke f xs)
     where
       put : List Expr → Expr
@@ -88,7 +88,7 @@ module _ (s : Environment) where
       put (x ∷ ys) = e.PutChar x
 
   -- the function with this number, result and parameters, and the arguments
-  abbrev called : Leaf → ℕ → CType → List CType → List Expr → Checked Operand
+  abbrev pub called : Leaf → ℕ → CType → List CType → List Expr → Checked Operand
   called t f r ts xs = do
     _ ← none_of ((not (length xs == length ts), ArgumentCount (place_of t))
         ∷ (not (is_library_number f) && not (contains s.bodies (bytes_in s t)), NoBody (place_of t))
@@ -96,28 +96,28 @@ module _ (s : Environment) where
     Ok (made (place_of t) (called_core f xs) r)
 
   -- `malloc`: the argument, as what is asked for where it has that form, and its value; with another number of arguments these keep their own rules
-  abbrev malloc_called : Leaf → Option (Checked Request) → Option (Checked Value) → Checked (List Expr) → Checked Operand
+  abbrev pub malloc_called : Leaf → Option (Checked Request) → Option (Checked Value) → Checked (List Expr) → Checked Operand
   malloc_called t (Some q) v es = q >>= allocated s (place_of t)
   malloc_called t None (Some v) es = v >>= (λ x. Err (Mismatch (place_of t)))
   malloc_called t None None es = es >>= (λ x. Err (ArgumentCount (place_of t)))
 
-  abbrev free_called : Leaf → Option (Checked Value) → Checked (List Expr) → Checked Operand
+  abbrev pub free_called : Leaf → Option (Checked Value) → Checked (List Expr) → Checked Operand
   free_called t (Some v) es = v >>= freed (place_of t)
   free_called t None es = es >>= (λ x. Err (ArgumentCount (place_of t)))
 
   -- the arguments are brought to the parameters' types; those of what is no function keep their own rules, and then the name is wrong
-  abbrev called_entry : Leaf → Entry → Option (Checked Request) → Option (Checked Value) → (List CType → Checked (List Expr)) → Checked Operand
+  abbrev pub called_entry : Leaf → Entry → Option (Checked Request) → Option (Checked Value) → (List CType → Checked (List Expr)) → Checked Operand
   called_entry t (Variable v u) q x es = es [] >>= (λ xs. Err (Mismatch (place_of t)))
   called_entry t (Function f r ts) q x es =
       if is_malloc_number f then malloc_called t q x (es [])
       else (if is_free_number f then free_called t x (es [])
       else (es ts >>= called t f r ts))
 
-  abbrev fitted_argument : List CType → Value → Checked Expr
+  abbrev pub fitted_argument : List CType → Value → Checked Expr
   fitted_argument [] v = Ok v.expr
   fitted_argument (t ∷ ts) v = fitted v.first t v
 
-  abbrev tail : List CType → List CType
+  abbrev pub tail : List CType → List CType
   tail [] = []
   tail (t ∷ ts) = ts
 

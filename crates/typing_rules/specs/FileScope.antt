@@ -34,10 +34,10 @@ abbrev pub numbered : {A B : Type 0} → (ℕ → A → B) → ℕ → List A �
 numbered f n [] = []
 numbered f n (x ∷ xs) = f n x ∷ numbered f (suc n) xs
 
-abbrev variable_entry : ℕ → Named → List ℕ × Entry
+abbrev pub variable_entry : ℕ → Named → List ℕ × Entry
 variable_entry n d = (d.name, entry.Variable (record { kind = names.Global; index = n }) d.ctype)
 
-abbrev function_entry : ℕ → CoreFunction → List ℕ × Entry
+abbrev pub function_entry : ℕ → CoreFunction → List ℕ × Entry
 function_entry n f = (f.name, entry.Function n f.result (parameter_types f))
 
 -- the names of file scope
@@ -57,24 +57,24 @@ seen_now p = seen p (tags p)
 abbrev pub bytes : Program → Leaf → List ℕ
 bytes p t = environment.bytes_in (seen p []) t
 
-abbrev is_known : Program → List ℕ → Bool
+abbrev pub is_known : Program → List ℕ → Bool
 is_known p name = is_some (found_in (file_scope p) name)
 
 -- ---- variables; the name `main` is a function's
 
-abbrev is_main_name : List ℕ → Bool
+abbrev pub is_main_name : List ℕ → Bool
 is_main_name name = bytes_eq name (codes "main")
 
 -- the values that the cells start with: those of the initialiser, or zero and null (C11 6.7.9, 10)
-abbrev first_values : Program → CType → Option Initialiser → Checked (List Value)
+abbrev pub first_values : Program → CType → Option Initialiser → Checked (List Value)
 first_values p t None = Ok (uninitialised (seen_now p) t)
 first_values p t (Some x) = initial_values (seen_now p) p.globals t x
 
 -- the next variable, known from here on, in its own initialiser too (C11 6.2.1, 7)
-abbrev with_variable : Program → List ℕ → CType → Program
+abbrev pub with_variable : Program → List ℕ → CType → Program
 with_variable p name t = record p { globals = p.globals ++ (record { name = name; ctype = t } ∷ []) }
 
-abbrev with_values : Program → List Value → Program
+abbrev pub with_values : Program → List Value → Program
 with_values p vs = record p { initial = p.initial ++ (vs ∷ []) }
 
 unfoldable pub variable : CType → Declared → Program → Checked Program

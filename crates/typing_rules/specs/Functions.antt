@@ -28,40 +28,40 @@ use Rattle.typing_rules.specs.FileScope.{Program, numbered, seen_now, bytes}
 abbrev pub library_names : List (List ℕ)
 library_names = codes "getchar" ∷ codes "putchar" ∷ codes "malloc" ∷ codes "free" ∷ []
 
-abbrev is_library : List ℕ → Bool
+abbrev pub is_library : List ℕ → Bool
 is_library name = contains library_names name
 
 -- a prototype of `malloc` or `free`, in which alone a pointer to `void` is declared
-abbrev declares_allocation : List ℕ → Bool → Bool
+abbrev pub declares_allocation : List ℕ → Bool → Bool
 declares_allocation name defined = not defined && (bytes_eq name (codes "malloc") || bytes_eq name (codes "free"))
 
-abbrev is_void_pointer : CType → Bool
+abbrev pub is_void_pointer : CType → Bool
 is_void_pointer t = same_type t void_pointer
 
 -- ---- parameters
 
 -- an array of a parameter is a pointer to its element (C11 6.7.6.3, 7)
-abbrev adjusted : CType → CType
+abbrev pub adjusted : CType → CType
 adjusted (type.Array' b (more_of-CType t end_of-CType) n) = pointer_to t
 adjusted t = t
 
-abbrev name_of : Program → Option Leaf → List ℕ
+abbrev pub name_of : Program → Option Leaf → List ℕ
 name_of p None = []
 name_of p (Some t) = bytes p t
 
 -- the name, or the first token of a parameter without one
-abbrev place_of_parameter : Parameter → Place
+abbrev pub place_of_parameter : Parameter → Place
 place_of_parameter x = at x.name
   where
     at : Option Leaf → Place
     at None = place_of x.first
     at (Some t) = place_of t
 
-abbrev is_repeated : List Named → List ℕ → Bool
+abbrev pub is_repeated : List Named → List ℕ → Bool
 is_repeated ps [] = false
 is_repeated ps (c ∷ cs) = list_any (λ d. bytes_eq d.name (c ∷ cs)) ps
 
-abbrev parameter_entry : ℕ → Named → List ℕ × Entry
+abbrev pub parameter_entry : ℕ → Named → List ℕ × Entry
 parameter_entry n d = (d.name, entry.Variable (record { kind = names.Local; index = n }) d.ctype)
 
 -- the scope of a function: its parameters and its outermost block (C11 6.2.1, 4)
@@ -69,11 +69,11 @@ abbrev pub parameter_scope : List Named → Scope
 parameter_scope ps = numbered parameter_entry 0 ps
 
 -- a size may name an earlier parameter, and is no constant then
-abbrev with_parameters : Environment → List Named → Environment
+abbrev pub with_parameters : Environment → List Named → Environment
 with_parameters g ps = record g { scopes = parameter_scope ps ∷ g.scopes }
 
 -- `allocation`: in a prototype of `malloc` or `free`
-abbrev is_wrong_parameter : Environment → Bool → CType → Bool
+abbrev pub is_wrong_parameter : Environment → Bool → CType → Bool
 is_wrong_parameter g allocation t = not (is_complete_in g t || (allocation && is_void_pointer t))
 
 unfoldable pub parameter : Program → Bool → List Named → Parameter → Checked (List Named)
@@ -94,30 +94,30 @@ parameters p allocation ps (x ∷ xs) = parameter p allocation ps x >>= (λ qs. 
 abbrev pub function_number : List CoreFunction → List ℕ → Option ℕ
 function_number fs name = position (λ f. bytes_eq name f.name) fs
 
-abbrev types_of : List Named → List CType
+abbrev pub types_of : List Named → List CType
 types_of ps = map (λ d. d.ctype) ps
 
-abbrev are_same : List CType → List CType → Bool
+abbrev pub are_same : List CType → List CType → Bool
 are_same [] [] = true
 are_same (t ∷ ts) (u ∷ us) = same_type t u && are_same ts us
 are_same _ _ = false
 
 -- a declaration beside an earlier one: of the same type, and with one body at most, which those of the library have elsewhere (C11 6.7, 4; 6.9, 3)
-abbrev contradicts : CoreFunction → CType → List Named → Bool → Bool
+abbrev pub contradicts : CoreFunction → CType → List Named → Bool → Bool
 contradicts f r ps defined = not (same_type f.result r && are_same (parameter_types f) (types_of ps)) || (defined && (has_body f || is_library f.name))
 
-abbrev contradicts_earlier : Program → List ℕ → CType → List Named → Bool → Bool
+abbrev pub contradicts_earlier : Program → List ℕ → CType → List Named → Bool → Bool
 contradicts_earlier p name r ps defined = list_any (λ f. bytes_eq f.name name && contradicts f r ps defined) p.functions
 
-abbrev is_variable : Program → List ℕ → Bool
+abbrev pub is_variable : Program → List ℕ → Bool
 is_variable p name = list_any (λ d. bytes_eq d.name name) p.globals
 
 -- `main` is `int main(void)` (C11 5.1.2.2.1)
-abbrev is_other_main : List ℕ → CType → List Named → Bool
+abbrev pub is_other_main : List ℕ → CType → List Named → Bool
 is_other_main name r ps = bytes_eq name (codes "main") && not (same_type r int && are_same (types_of ps) [])
 
 -- `void`, a complete type, or a pointer to `void` where that may stand
-abbrev is_wrong_result : Program → Bool → CType → Bool
+abbrev pub is_wrong_result : Program → Bool → CType → Bool
 is_wrong_result p allocation r = not (is_void r || (is_complete_in (seen_now p) r || (allocation && is_void_pointer r)))
 
 unfoldable pub declarable_function : Program → Leaf → CType → List Named → Bool → Checked (Unit {0})
@@ -129,21 +129,21 @@ declarable_function p t r ps defined =
   ∷ (is_reserved (seen_now p) name, Reserved (place_of t)) ∷ [])
 
 -- the parameters of a function without body have no names
-abbrev without_name : Named → Named
+abbrev pub without_name : Named → Named
 without_name d = record d { name = [] }
 
 abbrev pub prototype : List ℕ → CType → List Named → CoreFunction
 prototype name r ps = record { name = name; result = r; params = length ps; locals = map without_name ps; registers = []; ghosts = []; body = None }
 
-abbrev defined_function : List ℕ → CType → List Named → Frame → List Stmt → CoreFunction
+abbrev pub defined_function : List ℕ → CType → List Named → Frame → List Stmt → CoreFunction
 defined_function name r ps f ss = record { name = name; result = r; params = length ps; locals = f.locals; registers = []; ghosts = []; body = Some ss }
 
 -- the function is known from here on, in its own body too; its number is that of its first declaration
-abbrev with_function : Program → List ℕ → CType → List Named → Option ℕ → Program
+abbrev pub with_function : Program → List ℕ → CType → List Named → Option ℕ → Program
 with_function p name r ps None = record p { functions = p.functions ++ (prototype name r ps ∷ []) }
 with_function p name r ps (Some n) = p
 
-abbrev number_or : Option ℕ → ℕ → ℕ
+abbrev pub number_or : Option ℕ → ℕ → ℕ
 number_or None n = n
 number_or (Some k) n = k
 

@@ -25,7 +25,7 @@ use Rattle.typing_rules.specs.Expressions.{full}
 -- in an environment, where an expression for a cell gives a part of the answer, and a cell that is filled up another
 module _ (g : Environment) (A : Type 0) (given : Place → CType → Expr → Checked A) (filled : CType → A) where
   -- the types of the elements or members
-  abbrev members_of : Option (List CType) → List CType
+  abbrev pub members_of : Option (List CType) → List CType
   members_of None = []
   members_of (Some ts) = ts
 
@@ -39,7 +39,7 @@ module _ (g : Environment) (A : Type 0) (given : Place → CType → Expr → Ch
   parts t = []
 
   -- `{0}` (the token `0` alone)
-  abbrev is_all_zero : Initialisers → Bool
+  abbrev pub is_all_zero : Initialisers → Bool
   is_all_zero (Element (Value (Number t)) NoElement) = bytes_eq (bytes_in g t) (codes "0")
   is_all_zero _ = false
 
@@ -56,7 +56,7 @@ module _ (g : Environment) (A : Type 0) (given : Place → CType → Expr → Ch
     all_alone NoElement = Ok tt
     all_alone (Element x xs) = alone x >>= (λ u. all_alone xs)
 
-  abbrev first : Initialiser → Place
+  abbrev pub first : Initialiser → Place
   first (Value x) = first_place x
   first (Braces t xs) = place_of t
 
@@ -87,7 +87,7 @@ module _ (g : Environment) (A : Type 0) (given : Place → CType → Expr → Ch
 abbrev pub Cell : Type 0
 Cell = CType × Expr
 
-abbrev zero_of : CType → Expr
+abbrev pub zero_of : CType → Expr
 zero_of (type.Int k) = if same_int_kind k kind.Int then e.Literal kind.Int (pos 0) else e.Convert k (e.Literal kind.Int (pos 0))
 zero_of t = e.Null
 
@@ -96,7 +96,7 @@ local_cells g = cells g Cell (λ at t x. Ok (t, x)) (λ t. (t, zero_of t))
 
 -- ---- initial values of file scope
 
-abbrev zero_value : CType → Constant
+abbrev pub zero_value : CType → Constant
 zero_value (type.Int k) = constant.Int (pos 0)
 zero_value t = constant.Null
 

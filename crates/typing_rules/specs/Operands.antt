@@ -65,7 +65,7 @@ condition v = if is_scalar_shape (shape v.ctype) then Ok v.expr else Err (Mismat
 -- ---- conversions
 
 -- an integer brought to a kind; to its own it stays as it is
-abbrev brought_from : IntKind → CType → Expr → Expr
+abbrev pub brought_from : IntKind → CType → Expr → Expr
 brought_from k (type.Int l) x = if same_int_kind k l then x else e.Convert k x
 brought_from k t x = x
 

@@ -88,7 +88,7 @@ cast at t v = do
 
 -- ---- unary operators, each at this place
 
-abbrev promoted_value : Place → (IntKind → Expr → Expr) → Value → CType → Checked Operand
+abbrev pub promoted_value : Place → (IntKind → Expr → Expr) → Value → CType → Checked Operand
 promoted_value at f v (type.Int k) = Ok (made at (f (promoted k) (brought (promoted k) v)) (type.Int (promoted k)))
 promoted_value at f v t = Err (Mismatch at)
 
@@ -101,7 +101,7 @@ unfoldable pub negation : Place → Value → Checked Operand
 negation at v = if is_scalar_shape (shape v.ctype) then Ok (made at (e.Not v.expr) int) else Err (Mismatch at)
 
 -- `&` takes an lvalue, which is no register (C11 6.5.3.2, 1 and 3)
-abbrev address_at : Place → What → Checked Operand
+abbrev pub address_at : Place → What → Checked Operand
 address_at at (At p t) = if is_register p then Err (NotPlace at) else Ok (made at (e.Address p t) (pointer_to t))
 address_at at w = Err (NotPlace at)
 

@@ -46,7 +46,7 @@ body_names text [] = []
 body_names text (Function r t xs (Some b) ∷ rest) = words.bytes_of text t.token ∷ body_names text rest
 body_names text (_ ∷ rest) = body_names text rest
 
-abbrev nameless : CType → Named
+abbrev pub nameless : CType → Named
 nameless t = record { name = []; ctype = t }
 
 -- what each text knows without a declaration (C11 7.21.7.6, 7.21.7.8, 7.22.3.4, 7.22.3.3)
@@ -62,34 +62,34 @@ start m text all = record { mode = m; text = text; bodies = body_names text all;
 
 -- ---- the end of a text
 
-abbrev nowhere : Place
+abbrev pub nowhere : Place
 nowhere = record { line = 0; column = 0 }
 
 -- the limits on a source: the cells of all its variables of file scope, and its weighted nodes
-abbrev most_file_cells : ℕ
+abbrev pub most_file_cells : ℕ
 most_file_cells = 16777216
 
-abbrev most_weight : ℕ
+abbrev pub most_weight : ℕ
 most_weight = 50000
 
-abbrev file_cells : Program → ℕ
+abbrev pub file_cells : Program → ℕ
 file_cells p = sum_by (λ d. cells p.layouts d.ctype) p.globals
 
-abbrev whole_weight : List Item → Program → ℕ
+abbrev pub whole_weight : List Item → Program → ℕ
 whole_weight all p = weight all + sum_by init_cells p.functions
 
-abbrev is_too_large : List Item → Program → Bool
+abbrev pub is_too_large : List Item → Program → Bool
 is_too_large all p = is_over p.mode
   where
     is_over : Mode → Bool
     is_over mode.Source = not (nat_le (file_cells p) most_file_cells && nat_le (whole_weight all p) most_weight)
     is_over mode.Woven = false
 
-abbrev core_of : Program → ℕ → Core
+abbrev pub core_of : Program → ℕ → Core
 core_of p main = record { layouts = p.layouts; globals = p.globals; initial = p.initial; ghosts = []; functions = p.functions; start = main }
 
 -- the number of `main`, where it has a body
-abbrev main_of : Program → Option ℕ
+abbrev pub main_of : Program → Option ℕ
 main_of p = if contains p.bodies (codes "main") then function_number p.functions (codes "main") else None
 
 unfoldable pub whole : List Item → Program → Checked Core

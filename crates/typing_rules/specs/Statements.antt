@@ -42,24 +42,24 @@ abbrev pub ◌>>=◌ : {A B : Type 0} → Does A → (A → Does B) → Does B
 (d >>= k) f = d f then (λ r. k r.0 r.1)
 
 -- the names of a declaration and of what follows it up to the end of a block
-abbrev opened : Frame → Frame
+abbrev pub opened : Frame → Frame
 opened f = record f { scopes = [] ∷ f.scopes }
 
-abbrev tail : List Scope → List Scope
+abbrev pub tail : List Scope → List Scope
 tail [] = []
 tail (s ∷ ss) = ss
 
-abbrev closed : Frame → Frame
+abbrev pub closed : Frame → Frame
 closed f = record f { scopes = tail f.scopes }
 
 unfoldable pub in_scope : {A : Type 0} → Does A → Does A
 in_scope d f = d (opened f) then (λ r. Ok (r.0, closed r.1))
 
-abbrev innermost : List Scope → Scope
+abbrev pub innermost : List Scope → Scope
 innermost [] = []
 innermost (s ∷ ss) = s
 
-abbrev with_name : List ℕ → Variable → CType → List Scope → List Scope
+abbrev pub with_name : List ℕ → Variable → CType → List Scope → List Scope
 with_name name v t [] = ((name, entry.Variable v t) ∷ []) ∷ []
 with_name name v t (s ∷ ss) = ((name, entry.Variable v t) ∷ s) ∷ ss
 
@@ -70,21 +70,21 @@ module _ (program : Environment) (result : CType) where
   seen f = record program { scopes = f.scopes ++ program.scopes }
 
   -- rules on expressions, which declare nothing
-  abbrev checked : {A : Type 0} → (Environment → Checked A) → Does A
+  abbrev pub checked : {A : Type 0} → (Environment → Checked A) → Does A
   checked c f = c (seen f) then (λ a. Ok (a, f))
 
   -- ---- declarations (C11 6.7)
 
-  abbrev local_variable : ℕ → Variable
+  abbrev pub local_variable : ℕ → Variable
   local_variable n = record { kind = names.Local; index = n }
 
   -- the next local, known from here on
-  abbrev declared_as : Leaf → CType → Does ℕ
+  abbrev pub declared_as : Leaf → CType → Does ℕ
   declared_as name t f =
       let bytes = bytes_in program name in
       Ok (length f.locals, record { locals = f.locals ++ (record { name = bytes; ctype = t } ∷ []); scopes = with_name bytes (local_variable (length f.locals)) t f.scopes })
 
-  abbrev judged : Leaf → CType → Does (Unit {0})
+  abbrev pub judged : Leaf → CType → Does (Unit {0})
   judged name t f =
       let bytes = bytes_in program name in
       declarable program (place_of name) (is_some (found_in (innermost f.scopes) bytes)) (not (is_complete_in program t)) false (is_reserved program bytes) t then (λ u. Ok (u, f))
@@ -94,7 +94,7 @@ module _ (program : Environment) (result : CType) where
   init_statements n o [] = []
   init_statements n o (c ∷ cs) = core.Init (local_variable n) o c.0 c.1 ∷ init_statements n (suc o) cs
 
-  abbrev initialised : ℕ → CType → Option Initialiser → Does (List Stmt)
+  abbrev pub initialised : ℕ → CType → Option Initialiser → Does (List Stmt)
   initialised n t None = pure (core.Empty ∷ [])
   initialised n t (Some x) = checked (λ g. local_cells g t x) >>= (λ cs. pure (init_statements n 0 cs))
 
@@ -117,24 +117,24 @@ module _ (program : Environment) (result : CType) where
 
   -- ---- parts of statements
 
-  abbrev value : Expression → Does Expr
+  abbrev pub value : Expression → Does Expr
   value x = checked (λ g. full g x) >>= (λ v. pure v.expr)
 
-  abbrev test : Expression → Does Expr
+  abbrev pub test : Expression → Does Expr
   test x = checked (λ g. full g x then operands.condition)
 
-  abbrev where_present : (Expression → Does Expr) → Option Expression → Does (Option Expr)
+  abbrev pub where_present : (Expression → Does Expr) → Option Expression → Does (Option Expr)
   where_present d None = pure None
   where_present d (Some x) = d x >>= (λ e. pure (Some e))
 
-  abbrev rule : Bool → Leaf → Does (Unit {0})
+  abbrev pub rule : Bool → Leaf → Does (Unit {0})
   rule broken t f = unless broken (Mismatch (place_of t)) then (λ u. Ok (u, f))
 
-  abbrev jump : Bool → Leaf → Stmt → Does Stmt
+  abbrev pub jump : Bool → Leaf → Stmt → Does Stmt
   jump loop t s f = unless (not loop) (StrayJump (place_of t)) then (λ u. Ok (s, f))
 
   -- C11 6.8.6.4
-  abbrev returned : Leaf → Option Expression → Does Stmt
+  abbrev pub returned : Leaf → Option Expression → Does Stmt
   returned t None = rule (not (is_void result)) t >>= (λ u. pure (core.Return None))
   returned t (Some x) = do
     v ← checked (λ g. full g x)
@@ -143,17 +143,17 @@ module _ (program : Environment) (result : CType) where
     pure (core.Return (Some e))
 
   -- what stands before a `for` loop
-  abbrev first_part : ForFirst → Does (List Stmt)
+  abbrev pub first_part : ForFirst → Does (List Stmt)
   first_part NoFirst = pure []
   first_part (FirstValue x) = value x >>= (λ e. pure (core.Eval e ∷ []))
   first_part (FirstLocal l) = declare l
 
   -- a declaration in a `for` has a scope of its own
-  abbrev scoped : ForFirst → Does Stmt → Does Stmt
+  abbrev pub scoped : ForFirst → Does Stmt → Does Stmt
   scoped (FirstLocal l) d = in_scope d
   scoped x d = d
 
-  abbrev with_first : ForFirst → List Stmt → Stmt → Stmt
+  abbrev pub with_first : ForFirst → List Stmt → Stmt → Stmt
   with_first NoFirst ss s = s
   with_first x ss s = core.Block (ss ++ (s ∷ []))
 

@@ -16,7 +16,7 @@ use Rattle.typing_rules.specs.FileScope.{Program, tags, seen, seen_now, bytes}
 -- ---- members, after those before them
 
 module _ (g : Environment) where
-  abbrev has_member : List Named → List ℕ → Bool
+  abbrev pub has_member : List Named → List ℕ → Bool
   has_member ms name = list_any (λ m. bytes_eq m.name name) ms
 
   unfoldable pub member : CType → List Named → Declarator → Checked (List Named)
@@ -39,12 +39,12 @@ module _ (g : Environment) where
 -- ---- structs
 
 -- of the tag: that no struct has it already, and that it isn't reserved
-abbrev tag_declarable : Program → Leaf → Checked (Unit {0})
+abbrev pub tag_declarable : Program → Leaf → Checked (Unit {0})
 tag_declarable p tag =
     none_of ((contains (tags p) (bytes p tag), Redeclared (place_of tag))
     ∷ (is_reserved (seen_now p) (bytes p tag), Reserved (place_of tag)) ∷ [])
 
-abbrev with_layout : Program → List ℕ → List Named → Program
+abbrev pub with_layout : Program → List ℕ → List Named → Program
 with_layout p name ms = record p { layouts = p.layouts ++ (record { tag = name; members = ms } ∷ []) }
 
 -- the tag is known in the members, and the struct is complete after them (C11 6.2.1, 7; 6.7.2.1, 8). Its own limit comes last

@@ -33,13 +33,13 @@ pub record Member : Type 0 where
 module _ (layouts : List Layout) where
   -- ---- elements
 
-  abbrev before_index : Place → Place_ → CType → Checked Base
+  abbrev pub before_index : Place → Place_ → CType → Checked Base
   before_index first p (type.Array' b (more_of-CType t end_of-CType) n) = Ok (InArray p t)
   before_index first p t = do
     v ← loaded first p t
     Ok (BehindPointer v)
 
-  abbrev base_of_what : Operand → What → Checked Base
+  abbrev pub base_of_what : Operand → What → Checked Base
   base_of_what a (At p t) = before_index a.first p t
   base_of_what a w = do
     v ← value a
@@ -49,11 +49,11 @@ module _ (layouts : List Layout) where
   base_of a = base_of_what a a.what
 
   -- `p[i]` is `*(p + i)` (C11 6.5.2.1, 2)
-  abbrev behind : Place → Value → CType → Value → Checked Operand
+  abbrev pub behind : Place → Value → CType → Value → Checked Operand
   behind at v (type.Pointer' b (more_of-CType t end_of-CType)) i = if is_void t then Err (Mismatch at) else Ok (at_place v.first (e.Deref (e.Move v.expr i.expr (cells layouts t) PointerFirst)) t)
   behind at v t i = Err (Mismatch at)
 
-  abbrev element_of : Place → Place → Base → Value → Checked Operand
+  abbrev pub element_of : Place → Place → Base → Value → Checked Operand
   element_of at first (InArray p t) i = Ok (at_place first (e.Index p i.expr (cells layouts t)) t)
   element_of at first (BehindPointer v) i = behind at v v.ctype i
 
@@ -64,23 +64,23 @@ module _ (layouts : List Layout) where
   -- ---- members
 
   -- the member with this number, after the cells of those before it (C11 6.7.2.1, 15)
-  abbrev member_at : List Declared → ℕ → Option Member
+  abbrev pub member_at : List Declared → ℕ → Option Member
   member_at ds i = option_map (λ d. record { offset = sum_by (λ d. cells layouts d.ctype) (take i ds); ctype = d.ctype }) (slice_get ds i)
 
-  abbrev member_among : List ℕ → List Declared → Option Member
+  abbrev pub member_among : List ℕ → List Declared → Option Member
   member_among name ds = option_and_then (member_at ds) (position (λ d. bytes_eq name d.name) ds)
 
   -- the member with the name of the struct with the number
   abbrev pub member_of : ℕ → List ℕ → Option Member
   member_of n name = option_and_then (λ l. member_among name l.members) (slice_get layouts n)
 
-  abbrev of_struct : Place → Place → Place → List ℕ → Place_ → CType → Checked Operand
+  abbrev pub of_struct : Place → Place → Place → List ℕ → Place_ → CType → Checked Operand
   of_struct at first at_name name p (type.Struct n) = do
     m ← kept (Unknown at_name) (member_of n name)
     Ok (at_place first (e.Member p m.offset) m.ctype)
   of_struct at first at_name name p t = Err (Mismatch at)
 
-  abbrev dot_of : Place → Place → Place → List ℕ → What → Checked Operand
+  abbrev pub dot_of : Place → Place → Place → List ℕ → What → Checked Operand
   dot_of at first at_name name (At p t) = of_struct at first at_name name p t
   dot_of at first at_name name w = Err (Mismatch at)
 
@@ -88,7 +88,7 @@ module _ (layouts : List Layout) where
   unfoldable pub dot : Place → Place → List ℕ → Operand → Checked Operand
   dot at at_name name a = dot_of at a.first at_name name a.what
 
-  abbrev arrow_of : Place → Place → List ℕ → Value → CType → Checked Operand
+  abbrev pub arrow_of : Place → Place → List ℕ → Value → CType → Checked Operand
   arrow_of at at_name name v (type.Pointer' b (more_of-CType t end_of-CType)) = of_struct at v.first at_name name (e.Deref v.expr) t
   arrow_of at at_name name v t = Err (Mismatch at)
 

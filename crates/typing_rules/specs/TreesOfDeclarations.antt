@@ -50,7 +50,7 @@ operands_there (Some c) = operands c
 
 -- ---- declarators
 
-abbrev stars_of : List Star → List syntax.Modifier
+abbrev pub stars_of : List Star → List syntax.Modifier
 stars_of stars = replicate (length stars) syntax.PointerTo
 
 unfoldable pub direct_step : Direct-F syntax.Declarator syntax.Declarator → syntax.Declarator
@@ -65,15 +65,22 @@ declarator_step x = record { name = x.direct.name; modifiers = x.direct.modifier
 unfoldable pub declarator : Declarator → syntax.Declarator
 declarator = fold-Declarator syntax.Declarator syntax.Declarator direct_step declarator_step
 
+unfoldable pub direct : Direct → syntax.Declarator
+direct = fold-Direct syntax.Declarator syntax.Declarator direct_step declarator_step
+
 -- ---- initialisers
 
-unfoldable pub elements_after : List (Link syntax.Initialiser) → syntax.Initialisers
-elements_after [] = syntax.NoElement
-elements_after (l ∷ ls) = syntax.Element l.operand (elements_after ls)
+abbrev pub same_initialiser : syntax.Initialiser → syntax.Initialiser
+same_initialiser x = x
+
+module _ {A : Type 0} (f : A → syntax.Initialiser) where
+  unfoldable pub elements_after : List (Link A) → syntax.Initialisers
+  elements_after [] = syntax.NoElement
+  elements_after (l ∷ ls) = syntax.Element (f l.operand) (elements_after ls)
 
 unfoldable pub init_step : Init-F syntax.Initialiser → syntax.Initialiser
 init_step (Init-F.Value value) = syntax.Value (assign value)
-init_step (Init-F.Braces opening elements last closing) = syntax.Braces opening (syntax.Element elements.first (elements_after elements.rest))
+init_step (Init-F.Braces opening elements last closing) = syntax.Braces opening (syntax.Element elements.first (elements_after same_initialiser elements.rest))
 
 unfoldable pub init : Init → syntax.Initialiser
 init = fold-Init syntax.Initialiser init_step
@@ -84,7 +91,7 @@ declared (d.Initialised a equals value) = record { declarator = declarator a; in
 
 -- ---- parameters
 
-abbrev integer_first : Integer → Leaf
+abbrev pub integer_first : Integer → Leaf
 integer_first (i.Char t) = t
 integer_first (i.SignedChar t u) = t
 integer_first (i.UnsignedChar t u) = t
@@ -98,12 +105,12 @@ integer_first (i.Long (Some t) u v) = t
 integer_first (i.Long None t v) = t
 integer_first (i.UnsignedLong t u v) = t
 
-abbrev specifier_first : Specifier → Leaf
+abbrev pub specifier_first : Specifier → Leaf
 specifier_first (s.Integer x) = integer_first x
 specifier_first (s.Void t) = t
 specifier_first (s.Struct t tag) = t
 
-abbrev first_of : List Leaf → Specifier → Leaf
+abbrev pub first_of : List Leaf → Specifier → Leaf
 first_of [] x = specifier_first x
 first_of (c ∷ cs) x = c
 
@@ -112,13 +119,16 @@ sizes_step (Sizes-F.Unsized opening closing) = syntax.ArrayUnsized ∷ []
 sizes_step (Sizes-F.First opening size closing) = syntax.ArrayOf (choice size) ∷ []
 sizes_step (Sizes-F.More before opening size closing) = before ++ (syntax.ArrayOf (choice size) ∷ [])
 
-unfoldable pub sizes : Option Sizes → List syntax.Modifier
-sizes None = []
-sizes (Some x) = fold-Sizes (List syntax.Modifier) sizes_step x
+unfoldable pub sizes : Sizes → List syntax.Modifier
+sizes = fold-Sizes (List syntax.Modifier) sizes_step
+
+abbrev pub sizes_there : Option Sizes → List syntax.Modifier
+sizes_there None = []
+sizes_there (Some x) = sizes x
 
 unfoldable pub parameter : Parameter → syntax.Parameter
 parameter (p.Named cs x a) = let m = declarator a in record { specifier = x.specifier; name = Some m.name; first = first_of cs x.specifier; modifiers = m.modifiers }
-parameter (p.Nameless cs x stars brackets) = record { specifier = x.specifier; name = None; first = first_of cs x.specifier; modifiers = sizes brackets ++ stars_of stars }
+parameter (p.Nameless cs x stars brackets) = record { specifier = x.specifier; name = None; first = first_of cs x.specifier; modifiers = sizes_there brackets ++ stars_of stars }
 
 -- `(void)` and `()` have no parameter
 unfoldable pub params : Params → List syntax.Parameter
@@ -165,6 +175,9 @@ block_step x = in_order x.parts
 
 unfoldable pub stmt : Stmt → syntax.Statement
 stmt = fold-Stmt syntax.Statement syntax.Statement syntax.Statements block_part_step stmt_step block_step
+
+unfoldable pub block_part : BlockPart → syntax.Statement
+block_part = fold-BlockPart syntax.Statement syntax.Statement syntax.Statements block_part_step stmt_step block_step
 
 unfoldable pub block : Block → syntax.Statements
 block = fold-Block syntax.Statement syntax.Statement syntax.Statements block_part_step stmt_step block_step

@@ -30,7 +30,7 @@ use Rattle.typing_rules.specs.Syntax.{Expression, Expressions, Spelled}
 abbrev E : Type 0
 E = Expression
 
-abbrev same_expression : E → E
+abbrev pub same_expression : E → E
 same_expression x = x
 
 -- a chain, from the left

@@ -7,15 +7,15 @@ use Rattle.step_meaning.specs.declared.program.Function.{Function as CoreFunctio
 use Rattle.typing_rules.specs.Syntax.{Expression, Modifier, PointerTo, ArrayUnsized, ArrayOf, Declarator, Initialiser, Value, Braces, Initialisers, NoElement, Element, Declared, Local, Parameter, Statement, Nothing, Evaluate, Block, Declare, If, IfElse, While, Do, For, Break, Continue, Return, Ghost, Assert, Statements, End, Next, ForFirst, NoFirst, FirstValue, FirstLocal, Members, Item, Struct, Variables, Function, Meta, GhostVariable}
 use Rattle.typing_rules.specs.Nodes.{nodes}
 
-abbrev nodes_there : Option Expression → ℕ
+abbrev pub nodes_there : Option Expression → ℕ
 nodes_there None = 0
 nodes_there (Some x) = nodes x
 
-abbrev modifier_nodes : Modifier → ℕ
+abbrev pub modifier_nodes : Modifier → ℕ
 modifier_nodes (ArrayOf x) = nodes x
 modifier_nodes _ = 0
 
-abbrev modifiers_weight : List Modifier → ℕ
+abbrev pub modifiers_weight : List Modifier → ℕ
 modifiers_weight ms = suc (sum_by modifier_nodes ms)
 
 unfoldable mutual
@@ -27,7 +27,7 @@ unfoldable mutual
   elements_nodes NoElement = 0
   elements_nodes (Element x xs) = initialiser_nodes x + elements_nodes xs
 
-abbrev initialiser_weight : Option Initialiser → ℕ
+abbrev pub initialiser_weight : Option Initialiser → ℕ
 initialiser_weight None = 0
 initialiser_weight (Some x) = initialiser_nodes x
 
@@ -49,7 +49,7 @@ unfoldable mutual
   all_continues End = 0
   all_continues (Next s ss) = continues s + all_continues ss
 
-abbrev first_weight : ForFirst → ℕ
+abbrev pub first_weight : ForFirst → ℕ
 first_weight NoFirst = 0
 first_weight (FirstValue x) = nodes x
 first_weight (FirstLocal l) = declared_weight l.declared
@@ -78,7 +78,7 @@ unfoldable mutual
 
 -- ---- items
 
-abbrev body_weight : Option Statements → ℕ
+abbrev pub body_weight : Option Statements → ℕ
 body_weight None = 0
 body_weight (Some ss) = statements_weight ss
 
@@ -107,7 +107,7 @@ abbrev mutual
   all_inits end_of-Stmt = 0
   all_inits (more_of-Stmt s more) = inits s + all_inits more
 
-abbrev body_inits : Option (List Stmt) → ℕ
+abbrev pub body_inits : Option (List Stmt) → ℕ
 body_inits None = 0
 body_inits (Some ss) = sum_by inits ss
 
