@@ -13,3 +13,4 @@ mod InitialiserExamples
 mod StatementExamples
 mod LimitExamples
 mod CoreExamples
+mod TreeExamples

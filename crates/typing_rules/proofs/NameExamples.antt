@@ -160,6 +160,10 @@ library_rows =
     row (codes "void free(void **p); int main(void) { return 0; }") ((Function (spelled (void 0 4) 0) (name 5 9) ((parameter (void 10 14) (Some (name 17 18)) (word w.Void 10 14) (PointerTo ∷ PointerTo ∷ [])) ∷ []) None) ∷ (Function (spelled (int 21 24) 0) (name 25 29) [] (Some (Next (Return (word w.Return 38 44) (Some (Number (number 45 46)))) End))) ∷ []) 123 18 ∷
     -- void free(void *); int main(void) { return 0; }
     row (codes "void free(void *); int main(void) { return 0; }") ((Function (spelled (void 0 4) 0) (name 5 9) ((parameter (void 10 14) None (word w.Void 10 14) (PointerTo ∷ [])) ∷ []) None) ∷ (Function (spelled (int 19 22) 0) (name 23 27) [] (Some (Next (Return (word w.Return 36 42) (Some (Number (number 43 44)))) End))) ∷ []) 0 0 ∷
+    -- void free(void p[2]); int main(void) { return 0; }
+    row (codes "void free(void p[2]); int main(void) { return 0; }") ((Function (spelled (void 0 4) 0) (name 5 9) ((parameter (void 10 14) (Some (name 15 16)) (word w.Void 10 14) ((ArrayOf (Number (number 17 18))) ∷ [])) ∷ []) None) ∷ (Function (spelled (int 22 25) 0) (name 26 30) [] (Some (Next (Return (word w.Return 39 45) (Some (Number (number 46 47)))) End))) ∷ []) 123 16 ∷
+    -- void free(const void *p); int main(void) { return 0; }
+    row (codes "void free(const void *p); int main(void) { return 0; }") ((Function (spelled (void 0 4) 0) (name 5 9) ((parameter (void 16 20) (Some (name 22 23)) (word w.Const 10 15) (PointerTo ∷ [])) ∷ []) None) ∷ (Function (spelled (int 26 29) 0) (name 30 34) [] (Some (Next (Return (word w.Return 43 49) (Some (Number (number 50 51)))) End))) ∷ []) 0 0 ∷
     -- int malloc; int main(void) { return 0; }
     row (codes "int malloc; int main(void) { return 0; }") ((Variables (int 0 3) ((declared (name 4 10) [] None) ∷ [])) ∷ (Function (spelled (int 12 15) 0) (name 16 20) [] (Some (Next (Return (word w.Return 29 35) (Some (Number (number 36 37)))) End))) ∷ []) 122 5 ∷
     -- int main(void) { int free; free = getchar(); return 0; }

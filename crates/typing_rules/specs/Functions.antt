@@ -72,17 +72,17 @@ parameter_scope ps = numbered parameter_entry 0 ps
 abbrev pub with_parameters : Environment → List Named → Environment
 with_parameters g ps = record g { scopes = parameter_scope ps ∷ g.scopes }
 
--- `allocation`: in a prototype of `malloc` or `free`
+-- of a parameter that is declared with this type: it is complete as a parameter, or a pointer to `void` in a prototype of `malloc` or `free`
 abbrev pub is_wrong_parameter : Environment → Bool → CType → Bool
-is_wrong_parameter g allocation t = not (is_complete_in g t || (allocation && is_void_pointer t))
+is_wrong_parameter g allocation t = not (is_complete_in g (adjusted t) || (allocation && is_void_pointer t))
 
 unfoldable pub parameter : Program → Bool → List Named → Parameter → Checked (List Named)
 parameter p allocation ps x = do
   base ← specified (seen_now p) x.specifier
   ls ← layers (with_parameters (seen_now p) ps) 1 x.modifiers
-  let t = adjusted (layered ls base) in let name = name_of p x.name in
-    declarable (seen_now p) (place_of_parameter x) (is_repeated ps name) (is_wrong_parameter (seen_now p) allocation t) true (is_reserved (seen_now p) name) t
-    >>= (λ u. Ok (ps ++ (record { name = name; ctype = t } ∷ [])))
+  let t = layered ls base in let name = name_of p x.name in
+    declarable (seen_now p) (place_of_parameter x) (is_repeated ps name) (is_wrong_parameter (seen_now p) allocation t) true (is_reserved (seen_now p) name) (adjusted t)
+    >>= (λ u. Ok (ps ++ (record { name = name; ctype = adjusted t } ∷ [])))
 
 unfoldable pub parameters : Program → Bool → List Named → List Parameter → Checked (List Named)
 parameters p allocation ps [] = Ok ps
