@@ -1,5 +1,5 @@
 -- Examples of texts with the cores that they stand for.
-use Rattle.std.proofs.Common.{◌≡◌, refl, ℕ, ℤ, pos, List, [], ◌∷◌, ◌++◌, codes, Option, Some, None, Ok, Err}
+use Rattle.std.proofs.Common.{◌≡◌, refl, ℕ, pos, List, [], ◌∷◌, codes, Option, Some, None, Ok}
 use Rattle.c_lexer.specs.declared.token.IntSuffix.TheVariants as suffix
 use Rattle.c_grammar.specs.declared.word.Word.TheVariants as w
 use Rattle.c_grammar.specs.declared.word.Mode.TheVariants as mode
@@ -105,7 +105,7 @@ abbrev pub smallest_items : List Item
 smallest_items = ((Function (spelled (int 0 3) 0) (name 4 8) [] (Some (Next (Return (word w.Return 17 23) (Some (Number (number 24 25)))) End))) ∷ [])
 
 abbrev pub smallest_core : Core
-smallest_core = (core_of ( []) ( []) ( []) ((function (codes "main") int_type 0 ( []) (Some ((s.Return (Some (e.Literal kind.Int (pos 0)))) ∷ []))) ∷ []) 4)
+smallest_core = (core_of ([]) ([]) ([]) ((function (codes "main") int_type 0 ([]) (Some ((s.Return (Some (e.Literal kind.Int (pos 0)))) ∷ []))) ∷ []) 4)
 
 pub smallest : elaborated mode.Source smallest_text smallest_items ≡ Ok smallest_core
 unfolding checked_rules.kept checked_rules.unless checked_rules.none_of environment_rules.found_in environment_rules.found environment_rules.specified environment_rules.with_stars environment_rules.spelled_type nodes_rules.first_place judgements_rules.shape judgements_rules.on_pointers judgements_rules.arithmetic judgements_rules.relation judgements_rules.operation judgements_rules.conversion judgements_rules.selection judgements_rules.cast_conversion judgements_rules.compound_operation operands_rules.loaded operands_rules.value operands_rules.condition operands_rules.brought operands_rules.fitted operators_rules.unit operators_rules.computed operators_rules.combined operators_rules.selected operators_rules.choice_of operators_rules.cast_by operators_rules.cast operators_rules.promoting operators_rules.negation operators_rules.address operators_rules.dereferenced assignments_rules.assigned assignments_rules.updated assignments_rules.compound assignments_rules.stepped subobjects_rules.base_of subobjects_rules.indexed subobjects_rules.dot subobjects_rules.arrow allocation_rules.objects allocation_rules.product allocation_rules.allocated allocation_rules.freed expressions_rules.full expressions_rules.operand expressions_rules.arguments expressions_rules.only_value expressions_rules.only_request expressions_rules.requested expressions_rules.measured constant_expressions_rules.is_constant constant_expressions_rules.value_of constant_expressions_rules.constant constant_expressions_rules.size_of_array constant_expressions_rules.part_of constant_expressions_rules.initial_value declarations_rules.size declarations_rules.layers declarations_rules.layered declarations_rules.element_number declarations_rules.is_complete declarations_rules.is_within_limit initialisers_rules.parts initialisers_rules.zeros initialisers_rules.alone initialisers_rules.all_alone initialisers_rules.cells initialisers_rules.elements statements_rules.in_scope statements_rules.init_statements statements_rules.declare_one statements_rules.declare_all statements_rules.declare statements_rules.statement statements_rules.statements weights_rules.declared_weight weights_rules.item_weight weights_rules.initialiser_nodes weights_rules.elements_nodes weights_rules.continues weights_rules.all_continues weights_rules.statement_weight weights_rules.statements_weight file_scope_rules.file_scope file_scope_rules.variable file_scope_rules.variables structs_rules.member structs_rules.member_list structs_rules.all_members structs_rules.structure functions_rules.parameter functions_rules.parameters functions_rules.declarable_function functions_rules.replaced functions_rules.defined_as functions_rules.function programs_rules.item programs_rules.items programs_rules.whole programs_rules.elaborated programs_rules.elaboration number_rules.radix_of number_rules.value_of number_rules.number_value number_rules.constant_of number_rules.constant_with number_rules.first_holding number_rules.constant_types number_rules.number_of number_rules.suffix_of lexeme_rules.character_value type_rows.shape-the_row-CType-0 type_rows.hidden-the_row-CType-0 expression_rows.shape-the_row-Expr-0 expression_rows.hidden-the_row-Expr-0 expression_rows.shape-the_row-Expr-1 expression_rows.hidden-the_row-Expr-1 expression_rows.shape-the_row-Place_-2 expression_rows.hidden-the_row-Place_-2 statement_rows.shape-the_row-Stmt-0 statement_rows.hidden-the_row-Stmt-0 statement_rows.shape-the_row-Stmt-1 statement_rows.hidden-the_row-Stmt-1 hidden
@@ -120,7 +120,7 @@ abbrev pub conversions_items : List Item
 conversions_items = ((Variables (char 0 4) ((declared (name 5 6) [] None) ∷ [])) ∷ (Variables (unsigned 8 16) ((declared (name 17 18) [] None) ∷ [])) ∷ (Variables (int 20 23) ((declared (name 24 25) ((ArrayOf (Number (number 26 27))) ∷ []) None) ∷ [])) ∷ (Function (spelled (int 30 33) 0) (name 34 38) [] (Some (Next (Declare (local (int 47 50) ((declared (name 52 53) (PointerTo ∷ []) (Some (Value (Name (name 56 57))))) ∷ []))) (Next (Evaluate (Assign (Name (name 59 60)) (mark w.Assign 61 62) (Number (number 63 66)))) (Next (Evaluate (Assign (Index (Name (name 68 69)) (mark w.LeftBracket 69 70) (Number (number 70 71))) (mark w.Assign 73 74) (Binary (Name (name 75 76)) (mark w.Plus 77 78) (Number (suffixed suffix.L 79 81))))) (Next (Evaluate (Assign (Index (Name (name 83 84)) (mark w.LeftBracket 84 85) (Name (name 85 86))) (mark w.PlusAssign 88 90) (Name (name 91 92)))) (Next (Evaluate (Assign (Name (name 94 95)) (mark w.Assign 96 97) (Binary (Name (name 98 99)) (mark w.ShiftLeft 100 102) (Number (suffixed suffix.L 103 105))))) (Next (Return (word w.Return 107 113) (Some (Prefix (mark w.Minus 114 115) (Name (name 115 116))))) End)))))))) ∷ [])
 
 abbrev pub conversions_core : Core
-conversions_core = (core_of ( []) ((variable (codes "c") (type.Int kind.Char)) ∷ (variable (codes "u") (type.Int kind.UInt)) ∷ (variable (codes "a") (array_of int_type 2)) ∷ []) (((value.Int (pos 0)) ∷ []) ∷ ((value.Int (pos 0)) ∷ []) ∷ ((value.Int (pos 0)) ∷ (value.Int (pos 0)) ∷ []) ∷ []) ((function (codes "main") int_type 0 ((variable (codes "p") (pointer_to int_type)) ∷ []) (Some ((s.Init (local_variable 0) 0 (pointer_to int_type) (e.Address (global 2) int_type)) ∷ (s.Eval (e.Assign (global 0) (type.Int kind.Char) (e.Convert kind.Char (e.Literal kind.Int (pos 200))))) ∷ (s.Eval (e.Assign (e.Deref (e.Move (e.Load (own_local 0) (pointer_to int_type)) (e.Literal kind.Int (pos 1)) 1 PointerFirst)) int_type (e.Convert kind.Int (e.Binary op.Add kind.Long (e.Convert kind.Long (e.Load (global 0) (type.Int kind.Char))) (e.Literal kind.Long (pos 1)))))) ∷ (s.Eval (e.Update (e.Index (global 2) (e.Load (global 0) (type.Int kind.Char)) 1) int_type (update.Integer op.Add kind.UInt) (e.Load (global 1) (type.Int kind.UInt)) After)) ∷ (s.Eval (e.Assign (global 1) (type.Int kind.UInt) (e.Convert kind.UInt (e.Binary op.Shl kind.Int (e.Convert kind.Int (e.Load (global 0) (type.Int kind.Char))) (e.Literal kind.Long (pos 3)))))) ∷ (s.Return (Some (e.Unary unary.Neg kind.Int (e.Convert kind.Int (e.Load (global 0) (type.Int kind.Char)))))) ∷ []))) ∷ []) 4)
+conversions_core = (core_of ([]) ((variable (codes "c") (type.Int kind.Char)) ∷ (variable (codes "u") (type.Int kind.UInt)) ∷ (variable (codes "a") (array_of int_type 2)) ∷ []) (((value.Int (pos 0)) ∷ []) ∷ ((value.Int (pos 0)) ∷ []) ∷ ((value.Int (pos 0)) ∷ (value.Int (pos 0)) ∷ []) ∷ []) ((function (codes "main") int_type 0 ((variable (codes "p") (pointer_to int_type)) ∷ []) (Some ((s.Init (local_variable 0) 0 (pointer_to int_type) (e.Address (global 2) int_type)) ∷ (s.Eval (e.Assign (global 0) (type.Int kind.Char) (e.Convert kind.Char (e.Literal kind.Int (pos 200))))) ∷ (s.Eval (e.Assign (e.Deref (e.Move (e.Load (own_local 0) (pointer_to int_type)) (e.Literal kind.Int (pos 1)) 1 PointerFirst)) int_type (e.Convert kind.Int (e.Binary op.Add kind.Long (e.Convert kind.Long (e.Load (global 0) (type.Int kind.Char))) (e.Literal kind.Long (pos 1)))))) ∷ (s.Eval (e.Update (e.Index (global 2) (e.Load (global 0) (type.Int kind.Char)) 1) int_type (update.Integer op.Add kind.UInt) (e.Load (global 1) (type.Int kind.UInt)) After)) ∷ (s.Eval (e.Assign (global 1) (type.Int kind.UInt) (e.Convert kind.UInt (e.Binary op.Shl kind.Int (e.Convert kind.Int (e.Load (global 0) (type.Int kind.Char))) (e.Literal kind.Long (pos 3)))))) ∷ (s.Return (Some (e.Unary unary.Neg kind.Int (e.Convert kind.Int (e.Load (global 0) (type.Int kind.Char)))))) ∷ []))) ∷ []) 4)
 
 pub conversions : elaborated mode.Source conversions_text conversions_items ≡ Ok conversions_core
 unfolding checked_rules.kept checked_rules.unless checked_rules.none_of environment_rules.found_in environment_rules.found environment_rules.specified environment_rules.with_stars environment_rules.spelled_type nodes_rules.first_place judgements_rules.shape judgements_rules.on_pointers judgements_rules.arithmetic judgements_rules.relation judgements_rules.operation judgements_rules.conversion judgements_rules.selection judgements_rules.cast_conversion judgements_rules.compound_operation operands_rules.loaded operands_rules.value operands_rules.condition operands_rules.brought operands_rules.fitted operators_rules.unit operators_rules.computed operators_rules.combined operators_rules.selected operators_rules.choice_of operators_rules.cast_by operators_rules.cast operators_rules.promoting operators_rules.negation operators_rules.address operators_rules.dereferenced assignments_rules.assigned assignments_rules.updated assignments_rules.compound assignments_rules.stepped subobjects_rules.base_of subobjects_rules.indexed subobjects_rules.dot subobjects_rules.arrow allocation_rules.objects allocation_rules.product allocation_rules.allocated allocation_rules.freed expressions_rules.full expressions_rules.operand expressions_rules.arguments expressions_rules.only_value expressions_rules.only_request expressions_rules.requested expressions_rules.measured constant_expressions_rules.is_constant constant_expressions_rules.value_of constant_expressions_rules.constant constant_expressions_rules.size_of_array constant_expressions_rules.part_of constant_expressions_rules.initial_value declarations_rules.size declarations_rules.layers declarations_rules.layered declarations_rules.element_number declarations_rules.is_complete declarations_rules.is_within_limit initialisers_rules.parts initialisers_rules.zeros initialisers_rules.alone initialisers_rules.all_alone initialisers_rules.cells initialisers_rules.elements statements_rules.in_scope statements_rules.init_statements statements_rules.declare_one statements_rules.declare_all statements_rules.declare statements_rules.statement statements_rules.statements weights_rules.declared_weight weights_rules.item_weight weights_rules.initialiser_nodes weights_rules.elements_nodes weights_rules.continues weights_rules.all_continues weights_rules.statement_weight weights_rules.statements_weight file_scope_rules.file_scope file_scope_rules.variable file_scope_rules.variables structs_rules.member structs_rules.member_list structs_rules.all_members structs_rules.structure functions_rules.parameter functions_rules.parameters functions_rules.declarable_function functions_rules.replaced functions_rules.defined_as functions_rules.function programs_rules.item programs_rules.items programs_rules.whole programs_rules.elaborated programs_rules.elaboration number_rules.radix_of number_rules.value_of number_rules.number_value number_rules.constant_of number_rules.constant_with number_rules.first_holding number_rules.constant_types number_rules.number_of number_rules.suffix_of lexeme_rules.character_value type_rows.shape-the_row-CType-0 type_rows.hidden-the_row-CType-0 expression_rows.shape-the_row-Expr-0 expression_rows.hidden-the_row-Expr-0 expression_rows.shape-the_row-Expr-1 expression_rows.hidden-the_row-Expr-1 expression_rows.shape-the_row-Place_-2 expression_rows.hidden-the_row-Place_-2 statement_rows.shape-the_row-Stmt-0 statement_rows.hidden-the_row-Stmt-0 statement_rows.shape-the_row-Stmt-1 statement_rows.hidden-the_row-Stmt-1 hidden
@@ -150,7 +150,7 @@ abbrev pub allocation_items : List Item
 allocation_items = ((Function (spelled (int 0 3) 0) (name 4 8) [] (Some (Next (Declare (local (int 17 20) ((declared (name 22 23) (PointerTo ∷ []) (Some (Value (Call (name 26 32) (Then (Binary (Number (number 33 34)) (mark w.Star 35 36) (SizeOfType (word w.SizeOf 37 43) (spelled (int 44 47) 0))) NoMore))))) ∷ []))) (Next (Declare (local (int 51 54) ((declared (name 56 57) (PointerTo ∷ []) (Some (Value (Cast (mark w.LeftParen 60 61) (spelled (int 61 64) 1) (Paren (mark w.LeftParen 68 69) (Call (name 69 75) (Then (SizeOf (word w.SizeOf 76 82) (Prefix (mark w.Star 83 84) (Name (name 84 85)))) NoMore))))))) ∷ []))) (Next (Evaluate (Assign (Index (Name (name 89 90)) (mark w.LeftBracket 90 91) (Number (number 91 92))) (mark w.Assign 94 95) (Number (number 96 97)))) (Next (Evaluate (Call (name 99 103) (Then (Name (name 104 105)) NoMore))) (Next (Evaluate (Call (name 108 112) (Then (Number (number 113 114)) NoMore))) (Next (Return (word w.Return 117 123) (Some (Index (Name (name 124 125)) (mark w.LeftBracket 125 126) (Number (number 126 127))))) End)))))))) ∷ [])
 
 abbrev pub allocation_core : Core
-allocation_core = (core_of ( []) ( []) ( []) ((function (codes "main") int_type 0 ((variable (codes "p") (pointer_to int_type)) ∷ (variable (codes "q") (pointer_to int_type)) ∷ []) (Some ((s.Init (local_variable 0) 0 (pointer_to int_type) (e.Malloc (e.Convert kind.ULong (e.Literal kind.Int (pos 2))) int_type)) ∷ (s.Init (local_variable 1) 0 (pointer_to int_type) (e.Malloc (e.Literal kind.ULong (pos 1)) int_type)) ∷ (s.Eval (e.Assign (e.Deref (e.Move (e.Load (own_local 0) (pointer_to int_type)) (e.Literal kind.Int (pos 0)) 1 PointerFirst)) int_type (e.Literal kind.Int (pos 5)))) ∷ (s.Eval (e.Free (e.Load (own_local 0) (pointer_to int_type)))) ∷ (s.Eval (e.Free e.Null)) ∷ (s.Return (Some (e.Load (e.Deref (e.Move (e.Load (own_local 0) (pointer_to int_type)) (e.Literal kind.Int (pos 0)) 1 PointerFirst)) int_type))) ∷ []))) ∷ []) 4)
+allocation_core = (core_of ([]) ([]) ([]) ((function (codes "main") int_type 0 ((variable (codes "p") (pointer_to int_type)) ∷ (variable (codes "q") (pointer_to int_type)) ∷ []) (Some ((s.Init (local_variable 0) 0 (pointer_to int_type) (e.Malloc (e.Convert kind.ULong (e.Literal kind.Int (pos 2))) int_type)) ∷ (s.Init (local_variable 1) 0 (pointer_to int_type) (e.Malloc (e.Literal kind.ULong (pos 1)) int_type)) ∷ (s.Eval (e.Assign (e.Deref (e.Move (e.Load (own_local 0) (pointer_to int_type)) (e.Literal kind.Int (pos 0)) 1 PointerFirst)) int_type (e.Literal kind.Int (pos 5)))) ∷ (s.Eval (e.Free (e.Load (own_local 0) (pointer_to int_type)))) ∷ (s.Eval (e.Free e.Null)) ∷ (s.Return (Some (e.Load (e.Deref (e.Move (e.Load (own_local 0) (pointer_to int_type)) (e.Literal kind.Int (pos 0)) 1 PointerFirst)) int_type))) ∷ []))) ∷ []) 4)
 
 pub allocation : elaborated mode.Source allocation_text allocation_items ≡ Ok allocation_core
 unfolding checked_rules.kept checked_rules.unless checked_rules.none_of environment_rules.found_in environment_rules.found environment_rules.specified environment_rules.with_stars environment_rules.spelled_type nodes_rules.first_place judgements_rules.shape judgements_rules.on_pointers judgements_rules.arithmetic judgements_rules.relation judgements_rules.operation judgements_rules.conversion judgements_rules.selection judgements_rules.cast_conversion judgements_rules.compound_operation operands_rules.loaded operands_rules.value operands_rules.condition operands_rules.brought operands_rules.fitted operators_rules.unit operators_rules.computed operators_rules.combined operators_rules.selected operators_rules.choice_of operators_rules.cast_by operators_rules.cast operators_rules.promoting operators_rules.negation operators_rules.address operators_rules.dereferenced assignments_rules.assigned assignments_rules.updated assignments_rules.compound assignments_rules.stepped subobjects_rules.base_of subobjects_rules.indexed subobjects_rules.dot subobjects_rules.arrow allocation_rules.objects allocation_rules.product allocation_rules.allocated allocation_rules.freed expressions_rules.full expressions_rules.operand expressions_rules.arguments expressions_rules.only_value expressions_rules.only_request expressions_rules.requested expressions_rules.measured constant_expressions_rules.is_constant constant_expressions_rules.value_of constant_expressions_rules.constant constant_expressions_rules.size_of_array constant_expressions_rules.part_of constant_expressions_rules.initial_value declarations_rules.size declarations_rules.layers declarations_rules.layered declarations_rules.element_number declarations_rules.is_complete declarations_rules.is_within_limit initialisers_rules.parts initialisers_rules.zeros initialisers_rules.alone initialisers_rules.all_alone initialisers_rules.cells initialisers_rules.elements statements_rules.in_scope statements_rules.init_statements statements_rules.declare_one statements_rules.declare_all statements_rules.declare statements_rules.statement statements_rules.statements weights_rules.declared_weight weights_rules.item_weight weights_rules.initialiser_nodes weights_rules.elements_nodes weights_rules.continues weights_rules.all_continues weights_rules.statement_weight weights_rules.statements_weight file_scope_rules.file_scope file_scope_rules.variable file_scope_rules.variables structs_rules.member structs_rules.member_list structs_rules.all_members structs_rules.structure functions_rules.parameter functions_rules.parameters functions_rules.declarable_function functions_rules.replaced functions_rules.defined_as functions_rules.function programs_rules.item programs_rules.items programs_rules.whole programs_rules.elaborated programs_rules.elaboration number_rules.radix_of number_rules.value_of number_rules.number_value number_rules.constant_of number_rules.constant_with number_rules.first_holding number_rules.constant_types number_rules.number_of number_rules.suffix_of lexeme_rules.character_value type_rows.shape-the_row-CType-0 type_rows.hidden-the_row-CType-0 expression_rows.shape-the_row-Expr-0 expression_rows.hidden-the_row-Expr-0 expression_rows.shape-the_row-Expr-1 expression_rows.hidden-the_row-Expr-1 expression_rows.shape-the_row-Place_-2 expression_rows.hidden-the_row-Place_-2 statement_rows.shape-the_row-Stmt-0 statement_rows.hidden-the_row-Stmt-0 statement_rows.shape-the_row-Stmt-1 statement_rows.hidden-the_row-Stmt-1 hidden
@@ -165,7 +165,7 @@ abbrev pub calls_items : List Item
 calls_items = ((Function (spelled (int 0 3) 0) (name 4 5) ((parameter (int 6 9) (Some (name 10 11)) (word w.Int 6 9) []) ∷ (parameter (int 13 16) (Some (name 18 19)) (word w.Int 13 16) (PointerTo ∷ [])) ∷ []) None) ∷ (Function (spelled (int 22 25) 0) (name 26 27) [] (Some (Next (Return (word w.Return 36 42) (Some (Call (name 43 44) (Then (Character (character 45 48)) (Then (Number (number 50 51)) NoMore))))) End))) ∷ (Function (spelled (int 56 59) 0) (name 60 61) ((parameter (int 62 65) (Some (name 66 67)) (word w.Int 62 65) []) ∷ (parameter (int 69 72) (Some (name 73 74)) (word w.Int 69 72) ((ArrayOf (Number (number 75 76))) ∷ [])) ∷ []) (Some (Next (Declare (local (int 81 84) ((declared (name 85 86) ((ArrayOf (Number (number 87 88))) ∷ (ArrayOf (Number (number 90 91))) ∷ []) (Some (Braces (mark w.LeftBrace 95 96) (Element (Braces (mark w.LeftBrace 96 97) (Element (Value (Number (number 97 98))) NoElement)) (Element (Braces (mark w.LeftBrace 101 102) (Element (Value (Name (name 102 103))) (Element (Value (Number (number 105 106))) NoElement))) NoElement))))) ∷ []))) (Next (Declare (local (char 110 114) ((declared (name 115 116) ((ArrayOf (Number (number 117 118))) ∷ []) (Some (Braces (mark w.LeftBrace 122 123) (Element (Value (Number (number 123 124))) NoElement)))) ∷ []))) (Next (Block (Next (Declare (local (int 129 132) ((declared (name 133 134) [] None) ∷ []))) (Next (Evaluate (Call (name 136 143) (Then (Name (name 144 145)) NoMore))) End))) (Next (Evaluate (Cast (mark w.LeftParen 150 151) (spelled (void 151 155) 0) (Call (name 157 164) NoMore))) (Next (Return (word w.Return 168 174) (Some (Choose (Name (name 175 176)) (mark w.Question 177 178) (Index (Name (name 179 180)) (mark w.LeftBracket 180 181) (Number (number 181 182))) (Binary (Binary (Name (name 186 187)) (mark w.Minus 188 189) (Index (Name (name 190 191)) (mark w.LeftBracket 191 192) (Number (number 192 193)))) (mark w.Greater 195 196) (Number (number 197 198)))))) End))))))) ∷ (Function (spelled (int 202 205) 0) (name 206 210) [] (Some (Next (Evaluate (Call (name 219 220) NoMore)) (Next (Return (word w.Return 224 230) (Some (Number (number 231 232)))) End)))) ∷ [])
 
 abbrev pub calls_core : Core
-calls_core = (core_of ( []) ( []) ( []) ((function (codes "f") int_type 2 ((variable (codes "x") int_type) ∷ (variable (codes "y") (pointer_to int_type)) ∷ (variable (codes "h") (array_of (array_of int_type 2) 2)) ∷ (variable (codes "c") (array_of (type.Int kind.Char) 2)) ∷ (variable (codes "x") int_type) ∷ []) (Some ((s.Init (local_variable 2) 0 int_type (e.Literal kind.Int (pos 1))) ∷ (s.Init (local_variable 2) 1 int_type (e.Literal kind.Int (pos 0))) ∷ (s.Init (local_variable 2) 2 int_type (e.Load (own_local 0) int_type)) ∷ (s.Init (local_variable 2) 3 int_type (e.Literal kind.Int (pos 3))) ∷ (s.Init (local_variable 3) 0 (type.Int kind.Char) (e.Convert kind.Char (e.Literal kind.Int (pos 0)))) ∷ (s.Init (local_variable 3) 1 (type.Int kind.Char) (e.Convert kind.Char (e.Literal kind.Int (pos 0)))) ∷ (s.Block (s.Empty ∷ (s.Eval (e.PutChar (e.Load (own_local 4) int_type))) ∷ [])) ∷ (s.Eval (e.Discard e.GetChar)) ∷ (s.Return (Some (e.Choose (e.Load (own_local 0) int_type) (e.Load (e.Deref (e.Move (e.Load (own_local 1) (pointer_to int_type)) (e.Literal kind.Int (pos 0)) 1 PointerFirst)) int_type) (e.Compare comparing.Greater (e.Difference (e.Load (own_local 1) (pointer_to int_type)) (e.Address (e.Index (own_local 2) (e.Literal kind.Int (pos 1)) 2) int_type) 1) (e.Convert kind.Long (e.Literal kind.Int (pos 2))))))) ∷ []))) ∷ (function (codes "g") int_type 0 ( []) (Some ((s.Return (Some (e.Invoke 4 ((e.Literal kind.Int (pos 97)) ∷ e.Null ∷ [])))) ∷ []))) ∷ (function (codes "main") int_type 0 ( []) (Some ((s.Eval (e.Invoke 5 [])) ∷ (s.Return (Some (e.Literal kind.Int (pos 0)))) ∷ []))) ∷ []) 6)
+calls_core = (core_of ([]) ([]) ([]) ((function (codes "f") int_type 2 ((variable (codes "x") int_type) ∷ (variable (codes "y") (pointer_to int_type)) ∷ (variable (codes "h") (array_of (array_of int_type 2) 2)) ∷ (variable (codes "c") (array_of (type.Int kind.Char) 2)) ∷ (variable (codes "x") int_type) ∷ []) (Some ((s.Init (local_variable 2) 0 int_type (e.Literal kind.Int (pos 1))) ∷ (s.Init (local_variable 2) 1 int_type (e.Literal kind.Int (pos 0))) ∷ (s.Init (local_variable 2) 2 int_type (e.Load (own_local 0) int_type)) ∷ (s.Init (local_variable 2) 3 int_type (e.Literal kind.Int (pos 3))) ∷ (s.Init (local_variable 3) 0 (type.Int kind.Char) (e.Convert kind.Char (e.Literal kind.Int (pos 0)))) ∷ (s.Init (local_variable 3) 1 (type.Int kind.Char) (e.Convert kind.Char (e.Literal kind.Int (pos 0)))) ∷ (s.Block (s.Empty ∷ (s.Eval (e.PutChar (e.Load (own_local 4) int_type))) ∷ [])) ∷ (s.Eval (e.Discard e.GetChar)) ∷ (s.Return (Some (e.Choose (e.Load (own_local 0) int_type) (e.Load (e.Deref (e.Move (e.Load (own_local 1) (pointer_to int_type)) (e.Literal kind.Int (pos 0)) 1 PointerFirst)) int_type) (e.Compare comparing.Greater (e.Difference (e.Load (own_local 1) (pointer_to int_type)) (e.Address (e.Index (own_local 2) (e.Literal kind.Int (pos 1)) 2) int_type) 1) (e.Convert kind.Long (e.Literal kind.Int (pos 2))))))) ∷ []))) ∷ (function (codes "g") int_type 0 ([]) (Some ((s.Return (Some (e.Invoke 4 ((e.Literal kind.Int (pos 97)) ∷ e.Null ∷ [])))) ∷ []))) ∷ (function (codes "main") int_type 0 ([]) (Some ((s.Eval (e.Invoke 5 [])) ∷ (s.Return (Some (e.Literal kind.Int (pos 0)))) ∷ []))) ∷ []) 6)
 
 pub calls : elaborated mode.Source calls_text calls_items ≡ Ok calls_core
 unfolding checked_rules.kept checked_rules.unless checked_rules.none_of environment_rules.found_in environment_rules.found environment_rules.specified environment_rules.with_stars environment_rules.spelled_type nodes_rules.first_place judgements_rules.shape judgements_rules.on_pointers judgements_rules.arithmetic judgements_rules.relation judgements_rules.operation judgements_rules.conversion judgements_rules.selection judgements_rules.cast_conversion judgements_rules.compound_operation operands_rules.loaded operands_rules.value operands_rules.condition operands_rules.brought operands_rules.fitted operators_rules.unit operators_rules.computed operators_rules.combined operators_rules.selected operators_rules.choice_of operators_rules.cast_by operators_rules.cast operators_rules.promoting operators_rules.negation operators_rules.address operators_rules.dereferenced assignments_rules.assigned assignments_rules.updated assignments_rules.compound assignments_rules.stepped subobjects_rules.base_of subobjects_rules.indexed subobjects_rules.dot subobjects_rules.arrow allocation_rules.objects allocation_rules.product allocation_rules.allocated allocation_rules.freed expressions_rules.full expressions_rules.operand expressions_rules.arguments expressions_rules.only_value expressions_rules.only_request expressions_rules.requested expressions_rules.measured constant_expressions_rules.is_constant constant_expressions_rules.value_of constant_expressions_rules.constant constant_expressions_rules.size_of_array constant_expressions_rules.part_of constant_expressions_rules.initial_value declarations_rules.size declarations_rules.layers declarations_rules.layered declarations_rules.element_number declarations_rules.is_complete declarations_rules.is_within_limit initialisers_rules.parts initialisers_rules.zeros initialisers_rules.alone initialisers_rules.all_alone initialisers_rules.cells initialisers_rules.elements statements_rules.in_scope statements_rules.init_statements statements_rules.declare_one statements_rules.declare_all statements_rules.declare statements_rules.statement statements_rules.statements weights_rules.declared_weight weights_rules.item_weight weights_rules.initialiser_nodes weights_rules.elements_nodes weights_rules.continues weights_rules.all_continues weights_rules.statement_weight weights_rules.statements_weight file_scope_rules.file_scope file_scope_rules.variable file_scope_rules.variables structs_rules.member structs_rules.member_list structs_rules.all_members structs_rules.structure functions_rules.parameter functions_rules.parameters functions_rules.declarable_function functions_rules.replaced functions_rules.defined_as functions_rules.function programs_rules.item programs_rules.items programs_rules.whole programs_rules.elaborated programs_rules.elaboration number_rules.radix_of number_rules.value_of number_rules.number_value number_rules.constant_of number_rules.constant_with number_rules.first_holding number_rules.constant_types number_rules.number_of number_rules.suffix_of lexeme_rules.character_value type_rows.shape-the_row-CType-0 type_rows.hidden-the_row-CType-0 expression_rows.shape-the_row-Expr-0 expression_rows.hidden-the_row-Expr-0 expression_rows.shape-the_row-Expr-1 expression_rows.hidden-the_row-Expr-1 expression_rows.shape-the_row-Place_-2 expression_rows.hidden-the_row-Place_-2 statement_rows.shape-the_row-Stmt-0 statement_rows.hidden-the_row-Stmt-0 statement_rows.shape-the_row-Stmt-1 statement_rows.hidden-the_row-Stmt-1 hidden

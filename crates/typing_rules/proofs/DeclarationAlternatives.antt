@@ -1,5 +1,5 @@
 -- What each alternative of declarators, initialisers and sizes says, as one equation each.
-use Rattle.std.proofs.Common.{◌≡◌, List, [], ◌∷◌, ◌++◌, Option, Some, None, refl, sym, ap, map, ◌∙◌}
+use Rattle.std.proofs.Common.{◌≡◌, List, [], ◌∷◌, ◌++◌, Option, refl, sym, ap, map, ◌∙◌}
 use Rattle.c_grammar.specs.declared.word.Leaf.{Leaf}
 use Rattle.c_grammar.specs.declared.chain.Chain.{Chain}
 use Rattle.c_grammar.specs.declared.chain.Link.{Link}

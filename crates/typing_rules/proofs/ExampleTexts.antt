@@ -1,5 +1,5 @@
 -- How examples of the typing rules are written: the abstract syntax of a text of one line, whose tokens stand at these bytes, and what is expected of it.
-use Rattle.std.specs.Prelude.{ℕ, ◌+◌, ◌==◌, if◌then◌else◌, List, map, Option, Some, None, Result, Ok, Err}
+use Rattle.std.specs.Prelude.{ℕ, ◌+◌, ◌==◌, if◌then◌else◌, List, map, Option, Some, None, Ok, Err}
 use Rattle.c_lexer.specs.declared.token.Refusal.{Refusal}
 use Rattle.c_lexer.specs.declared.token.TokenKind.{TokenKind}
 use Rattle.c_lexer.specs.declared.token.TokenKind.TheVariants as token
@@ -14,7 +14,7 @@ use Rattle.c_grammar.specs.declared.types.Specifier.{Specifier}
 use Rattle.c_grammar.specs.declared.types.Specifier.TheVariants as s
 use Rattle.step_meaning.specs.declared.program.Core.{Core}
 use Rattle.typing_rules.specs.Checked.{Checked, refusal_of}
-use Rattle.typing_rules.specs.Syntax.{Expression, Modifier, Declarator, Initialiser, Declared, Parameter, Local, Members, Item, Spelled}
+use Rattle.typing_rules.specs.Syntax.{Modifier, Declarator, Initialiser, Declared, Parameter, Local, Members, Item, Spelled}
 use Rattle.typing_rules.specs.Programs.{elaborated}
 
 -- ---- tokens, from one byte up to another

@@ -1,14 +1,13 @@
 -- What each alternative of an expression says, as one equation each.
-use Rattle.std.proofs.Common.{◌≡◌, List, [], ◌∷◌, Option, Some, None, refl, sym, ap, map, ◌∙◌}
-use Rattle.std.specs.Prelude.{option_map}
+use Rattle.std.proofs.Common.{◌≡◌, List, [], ◌∷◌, Some, None, refl, sym, ap, map, ◌∙◌}
 use Rattle.c_grammar.specs.declared.word.Leaf.{Leaf}
 use Rattle.c_grammar.specs.declared.chain.Chain.{Chain}
 use Rattle.c_grammar.specs.declared.chain.Link.{Link}
 use Rattle.c_grammar.specs.declared.types.TypeName.{TypeName}
 use Rattle.c_grammar.specs.declared.expression.Assign.{Assign, fold-roll-Assign}
 use Rattle.c_grammar.specs.declared.expression.Choice.{Choice, fold-roll-Choice}
-use Rattle.c_grammar.specs.declared.expression.Primary.{Primary, fold-roll-Primary}
-use Rattle.c_grammar.specs.declared.expression.Suffix.{Suffix, fold-roll-Suffix}
+use Rattle.c_grammar.specs.declared.expression.Primary.{fold-roll-Primary}
+use Rattle.c_grammar.specs.declared.expression.Suffix.{fold-roll-Suffix}
 use Rattle.c_grammar.specs.declared.expression.Unary.{Unary, fold-roll-Unary}
 use Rattle.c_grammar.specs.declared.expression.Postfix.{Postfix, fold-roll-Postfix, out-Postfix, roll-out-Postfix}
 use Rattle.c_grammar.specs.declared.expression.Product.{Product, fold-roll-Product, out-Product, roll-out-Product}

@@ -2,7 +2,7 @@
 use Rattle.std.proofs.Common.{◌≡◌, refl, List, [], ◌∷◌, codes, Some, None}
 use Rattle.c_grammar.specs.declared.word.Word.TheVariants as w
 use Rattle.typing_rules.specs.Syntax.{Name, Number, Call, Member, Arrow, Increment, Prefix, Cast, Binary, Assign, NoMore, Then, PointerTo, ArrayOf, Value, FirstLocal, Nothing, Evaluate, Block, Declare, For, Return, End, Next, Struct, Variables, Function}
-use Rattle.typing_rules.proofs.ExampleTexts.{name, number, word, mark, int, unsigned, long, unsigned_long, void, struct, spelled, declarator, declared, parameter, local, members, Row, row, outcomes, refusals}
+use Rattle.typing_rules.proofs.ExampleTexts.{name, number, word, mark, int, long, unsigned_long, void, struct, spelled, declarator, declared, parameter, local, members, Row, row, outcomes, refusals}
 use Rattle.typing_rules.specs.Checked as checked_rules
 use Rattle.typing_rules.specs.Environment as environment_rules
 use Rattle.typing_rules.specs.Nodes as nodes_rules
@@ -188,7 +188,7 @@ mains_rows =
     row (codes "int main;") ((Variables (int 0 3) ((declared (name 4 8) [] None) ∷ [])) ∷ []) 123 5 ∷
     -- int main(void);
     row (codes "int main(void);") ((Function (spelled (int 0 3) 0) (name 4 8) [] None) ∷ []) 127 0 ∷
-    -- 
+    --
     row (codes "") [] 127 0 ∷
     -- int x = y;
     row (codes "int x = y;") ((Variables (int 0 3) ((declared (name 4 5) [] (Some (Value (Name (name 8 9))))) ∷ [])) ∷ []) 121 9 ∷

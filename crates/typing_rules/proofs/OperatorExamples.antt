@@ -3,7 +3,7 @@ use Rattle.std.proofs.Common.{◌≡◌, refl, List, [], ◌∷◌, codes, Some,
 use Rattle.c_lexer.specs.declared.token.IntSuffix.TheVariants as suffix
 use Rattle.c_grammar.specs.declared.word.Word.TheVariants as w
 use Rattle.typing_rules.specs.Syntax.{Name, Number, Paren, Call, Index, Member, Arrow, Prefix, Cast, Binary, Choose, Assign, NoMore, PointerTo, ArrayOf, NoFirst, Nothing, Evaluate, If, While, Do, For, Break, Return, End, Next, Struct, Variables, Function}
-use Rattle.typing_rules.proofs.ExampleTexts.{name, number, suffixed, word, mark, int, char, void, struct, spelled, declarator, declared, parameter, members, Row, row, outcomes, refusals}
+use Rattle.typing_rules.proofs.ExampleTexts.{name, number, suffixed, word, mark, int, char, void, struct, spelled, declarator, declared, members, Row, row, outcomes, refusals}
 use Rattle.typing_rules.specs.Checked as checked_rules
 use Rattle.typing_rules.specs.Environment as environment_rules
 use Rattle.typing_rules.specs.Nodes as nodes_rules

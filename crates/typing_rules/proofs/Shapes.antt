@@ -1,8 +1,8 @@
 -- The shapes of types that code makes.
 use Rattle.std.proofs.Common.{◌≡◌, ℕ, refl}
 use Rattle.step_meaning.specs.declared.value.IntKind.{IntKind}
-use Rattle.step_meaning.specs.declared.value.CType.{CType, end_of-CType, more_of-CType}
-use Rattle.step_meaning.specs.declared.value.CType.TheVariants.{Void, Int, Struct, Pointer, Array, Pointer', Array'}
+use Rattle.step_meaning.specs.declared.value.CType.{CType}
+use Rattle.step_meaning.specs.declared.value.CType.TheVariants.{Void, Int, Struct, Pointer, Array}
 use Rattle.step_meaning.specs.declared.value.CType.TheBlock.{shape-the_row-CType-0, hidden-the_row-CType-0}
 use denote.Hole.Carrier.{hidden}
 use Rattle.step_meaning.specs.ExpressionTypes.{pointer_to}

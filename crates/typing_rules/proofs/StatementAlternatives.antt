@@ -1,5 +1,5 @@
 -- What each alternative of a statement says, as one equation each.
-use Rattle.std.proofs.Common.{◌≡◌, List, [], ◌∷◌, Option, refl, sym, ap, map, ◌∙◌}
+use Rattle.std.proofs.Common.{◌≡◌, Option, sym, ap, map, ◌∙◌}
 use Rattle.std.specs.Prelude.{option_map}
 use Rattle.c_grammar.specs.declared.word.Leaf.{Leaf}
 use Rattle.c_grammar.specs.declared.expression.Assign.{Assign}
@@ -7,7 +7,7 @@ use Rattle.c_grammar.specs.declared.statement.Local.{Local}
 use Rattle.c_grammar.specs.declared.statement.ForFirst.{ForFirst}
 use Rattle.c_grammar.specs.declared.statement.Stmt.{Stmt, fold-roll-Stmt}
 use Rattle.c_grammar.specs.declared.statement.Stmt.TheVariants as s
-use Rattle.c_grammar.specs.declared.statement.BlockPart.{BlockPart, fold-roll-BlockPart}
+use Rattle.c_grammar.specs.declared.statement.BlockPart.{fold-roll-BlockPart}
 use Rattle.c_grammar.specs.declared.statement.BlockPart.TheVariants as p
 use Rattle.c_grammar.specs.declared.statement.Block.{Block, fold-roll-Block, out-Block, roll-out-Block}
 use Rattle.typing_rules.specs.Syntax as syntax

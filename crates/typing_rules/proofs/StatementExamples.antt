@@ -2,7 +2,7 @@
 use Rattle.std.proofs.Common.{◌≡◌, refl, List, [], ◌∷◌, codes, Some, None}
 use Rattle.c_grammar.specs.declared.word.Word.TheVariants as w
 use Rattle.typing_rules.specs.Syntax.{Name, Number, Call, Cast, Binary, Assign, NoMore, PointerTo, ArrayOf, Value, Braces, NoElement, Element, NoFirst, FirstValue, Nothing, Evaluate, Block, Declare, If, IfElse, While, Do, For, Break, Continue, Return, End, Next, Struct, Variables, Function}
-use Rattle.typing_rules.proofs.ExampleTexts.{name, number, word, mark, int, void, struct, spelled, declarator, declared, parameter, local, members, Row, row, outcomes, refusals}
+use Rattle.typing_rules.proofs.ExampleTexts.{name, number, word, mark, int, void, spelled, declarator, declared, parameter, local, members, Row, row, outcomes, refusals}
 use Rattle.typing_rules.specs.Checked as checked_rules
 use Rattle.typing_rules.specs.Environment as environment_rules
 use Rattle.typing_rules.specs.Nodes as nodes_rules

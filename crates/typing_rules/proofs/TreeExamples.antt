@@ -1,6 +1,5 @@
 -- Examples of concrete trees with the abstract syntax that they stand for, and so with their cores.
-use Rattle.std.proofs.Common.{◌≡◌, refl, ap, ◌∙◌, ℕ, List, [], ◌∷◌, codes, Option, Some, None, Ok, Err}
-use Rattle.std.specs.Prelude.{length}
+use Rattle.std.proofs.Common.{◌≡◌, refl, ap, ◌∙◌, List, [], ◌∷◌, Some, None, Ok}
 use Rattle.c_lexer.specs.declared.token.IntSuffix.TheVariants as suffix
 use Rattle.c_grammar.specs.declared.word.Leaf.{Leaf}
 use Rattle.c_grammar.specs.declared.word.Word.TheVariants as w
@@ -45,7 +44,6 @@ use Rattle.c_grammar.specs.declared.statement.BlockPart.TheVariants as b
 use Rattle.c_grammar.specs.declared.statement.Block.{Block, roll-Block, out-roll-Block}
 use Rattle.c_grammar.specs.declared.program.Member.{Member}
 use Rattle.c_grammar.specs.declared.program.Body.TheVariants as y
-use Rattle.c_grammar.specs.declared.program.Item.{Item as ConcreteItem}
 use Rattle.c_grammar.specs.declared.program.Item.TheVariants as m
 use Rattle.c_grammar.specs.declared.program.ProgramTree.{ProgramTree}
 use Rattle.typing_rules.specs.TreesOfExpressions as expression_trees

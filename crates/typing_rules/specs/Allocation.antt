@@ -1,5 +1,5 @@
 -- Calls of `malloc` and `free` (C11 7.22.3.4, 7.22.3.3), and the types that `sizeof` names (C11 6.5.3.4). Sizes are no numbers here: `malloc` takes a count of objects of a type.
-use Rattle.std.specs.Prelude.{ℕ, pos, Bool, true, false, ◌&&◌, if◌then◌else◌, length, Option, Some, None, Result, Ok, Err}
+use Rattle.std.specs.Prelude.{pos, Bool, ◌&&◌, if◌then◌else◌, length, Option, Some, None, Ok, Err}
 use Rattle.c_lexer.specs.declared.token.Place.{Place}
 use Rattle.step_meaning.specs.declared.value.IntKind.TheVariants as kind
 use Rattle.step_meaning.specs.declared.value.CType.{CType}

@@ -1,5 +1,5 @@
 -- Assignments: `=`, compound assignment, `++` and `--` (C11 6.5.16, 6.5.2.4, 6.5.3.1).
-use Rattle.std.specs.Prelude.{ℕ, pos, if◌then◌else◌, List, Option, Some, None, Result, Ok, Err}
+use Rattle.std.specs.Prelude.{pos, if◌then◌else◌, List, Option, Some, None, Ok}
 use Rattle.c_lexer.specs.declared.token.Place.{Place}
 use Rattle.step_meaning.specs.declared.value.IntKind.TheVariants as kind
 use Rattle.step_meaning.specs.declared.value.CType.{CType, end_of-CType, more_of-CType}

@@ -1,5 +1,5 @@
 -- Declarators (C11 6.7.6), and the rules on a declared name.
-use Rattle.std.specs.Prelude.{ℕ, suc, Bool, true, false, ◌&&◌, not, nat_lt, nat_le, List, [], ◌∷◌, length, Option, Some, None, Result, Ok, Err}
+use Rattle.std.specs.Prelude.{ℕ, suc, Bool, true, false, ◌&&◌, not, nat_lt, nat_le, List, [], ◌∷◌, length, Option, Some, Ok}
 use Rattle.c_lexer.specs.declared.token.Place.{Place}
 use Rattle.step_meaning.specs.declared.value.CType.{CType, end_of-CType, more_of-CType}
 use Rattle.step_meaning.specs.declared.value.CType.TheVariants as type
@@ -8,7 +8,7 @@ use Rattle.step_meaning.specs.TypeRules.{cells, most_cells}
 use Rattle.step_meaning.specs.ExpressionTypes.{pointer_to}
 use Rattle.typing_rules.specs.declared.fault.TypeFault.TheVariants.{Redeclared, Mismatch, StructValue, Reserved, TooLarge, BadInitialiser}
 use Rattle.typing_rules.specs.Checked.{Checked, ◌>>=◌, kept, none_of}
-use Rattle.typing_rules.specs.Syntax.{Expression, Modifier, PointerTo, ArrayUnsized, ArrayOf, Initialiser, Value, Braces, Initialisers, NoElement, Element}
+use Rattle.typing_rules.specs.Syntax.{Expression, Modifier, PointerTo, ArrayUnsized, ArrayOf, Initialiser, Braces, Initialisers, NoElement, Element}
 use Rattle.typing_rules.specs.Operands as operands
 use Rattle.typing_rules.specs.Environment.{Environment}
 use Rattle.typing_rules.specs.ConstantExpressions.{size_of_array}

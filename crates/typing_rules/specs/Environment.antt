@@ -1,5 +1,5 @@
 -- What names stand for (C11 6.2.1, 6.2.3), and the types that a text spells (C11 6.7.2, 6.7.7).
-use Rattle.std.specs.Prelude.{ℕ, suc, zero, Bool, true, false, ◌&&◌, ◌==◌, if◌then◌else◌, List, [], ◌∷◌, slice_index, position, Option, Some, None, Result, Ok, Err}
+use Rattle.std.specs.Prelude.{ℕ, suc, zero, Bool, true, false, ◌&&◌, ◌==◌, if◌then◌else◌, List, [], ◌∷◌, slice_index, position, Option, Some, None, Ok}
 use Rattle.std.specs.List.{list_any}
 use Rattle.std.specs.Str.{bytes_eq}
 use Rattle.c_lexer.specs.declared.token.Place.{Place}

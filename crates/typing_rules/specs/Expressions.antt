@@ -1,5 +1,5 @@
 -- Expressions (C11 6.5): the parts of a construct from left to right, each part's rules where it stands, then the rules of the construct.
-use Rattle.std.specs.Prelude.{ℕ, nat_le, nat_lt, pos, Bool, true, false, ◌&&◌, not, ◌==◌, if◌then◌else◌, List, [], ◌∷◌, length, codes, Option, Some, None, Result, Ok, Err}
+use Rattle.std.specs.Prelude.{ℕ, nat_le, nat_lt, pos, Bool, ◌&&◌, not, ◌==◌, if◌then◌else◌, List, [], ◌∷◌, length, codes, Option, Some, None, Ok, Err}
 use Rattle.std.specs.Str.{bytes_eq}
 use Rattle.c_lexer.specs.declared.token.Place.{Place}
 use Rattle.c_lexer.specs.declared.token.ConstantType.{ConstantType}

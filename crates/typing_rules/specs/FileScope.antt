@@ -1,5 +1,5 @@
 -- A program up to some item, and its variables of file scope (C11 6.9.2).
-use Rattle.std.specs.Prelude.{ℕ, suc, Bool, false, ◌||◌, not, List, [], ◌∷◌, ◌++◌, map, codes, Option, Some, None, is_some, Result, Ok, Err}
+use Rattle.std.specs.Prelude.{ℕ, suc, Bool, false, ◌||◌, not, List, [], ◌∷◌, ◌++◌, map, codes, Option, Some, None, is_some, Ok}
 use Rattle.std.specs.Str.{bytes_eq}
 use Rattle.c_grammar.specs.declared.word.Mode.{Mode}
 use Rattle.c_grammar.specs.declared.word.Leaf.{Leaf}
@@ -81,8 +81,8 @@ unfoldable pub variable : CType → Declared → Program → Checked Program
 variable base d p = do
   ls ← layers (seen_now p) (count_of d.initialiser) d.declarator.modifiers
   let name = bytes p d.declarator.name in let t = layered ls base in
-    declarable (seen_now p) (place_of d.declarator.name) (is_known p name) (is_main_name name || not (is_complete_in (seen_now p) t)) false (is_reserved (seen_now p) name) t
-    >>= (λ u. first_values (with_variable p name t) t d.initialiser >>= (λ vs. Ok (with_values (with_variable p name t) vs)))
+      declarable (seen_now p) (place_of d.declarator.name) (is_known p name) (is_main_name name || not (is_complete_in (seen_now p) t)) false (is_reserved (seen_now p) name) t
+      >>= (λ u. first_values (with_variable p name t) t d.initialiser >>= (λ vs. Ok (with_values (with_variable p name t) vs)))
 
 unfoldable pub variables : CType → List Declared → Program → Checked Program
 variables base [] p = Ok p

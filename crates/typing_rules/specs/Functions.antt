@@ -1,5 +1,5 @@
 -- Declarations and definitions of functions (C11 6.7.6.3, 6.9.1).
-use Rattle.std.specs.Prelude.{ℕ, suc, Bool, true, false, ◌&&◌, ◌||◌, not, List, [], ◌∷◌, ◌++◌, map, length, take, drop, codes, position, slice_get, Option, Some, None, is_some, Result, Ok, Err}
+use Rattle.std.specs.Prelude.{ℕ, suc, Bool, true, false, ◌&&◌, ◌||◌, not, List, [], ◌∷◌, ◌++◌, map, length, take, drop, codes, position, Option, Some, None, is_some, Ok}
 use Rattle.std.specs.List.{list_any}
 use Rattle.std.specs.Str.{bytes_eq}
 use Rattle.c_lexer.specs.declared.token.Place.{Place}
@@ -81,8 +81,8 @@ parameter p allocation ps x = do
   base ← specified (seen_now p) x.specifier
   ls ← layers (with_parameters (seen_now p) ps) 1 x.modifiers
   let t = layered ls base in let name = name_of p x.name in
-    declarable (seen_now p) (place_of_parameter x) (is_repeated ps name) (is_wrong_parameter (seen_now p) allocation t) true (is_reserved (seen_now p) name) (adjusted t)
-    >>= (λ u. Ok (ps ++ (record { name = name; ctype = adjusted t } ∷ [])))
+      declarable (seen_now p) (place_of_parameter x) (is_repeated ps name) (is_wrong_parameter (seen_now p) allocation t) true (is_reserved (seen_now p) name) (adjusted t)
+      >>= (λ u. Ok (ps ++ (record { name = name; ctype = adjusted t } ∷ [])))
 
 unfoldable pub parameters : Program → Bool → List Named → List Parameter → Checked (List Named)
 parameters p allocation ps [] = Ok ps
@@ -122,11 +122,11 @@ is_wrong_result p allocation r = not (is_void r || (is_complete_in (seen_now p) 
 
 unfoldable pub declarable_function : Program → Leaf → CType → List Named → Bool → Checked (Unit {0})
 declarable_function p t r ps defined =
-  let name = bytes p t in
-  none_of ((is_variable p name || contradicts_earlier p name r ps defined, Redeclared (place_of t))
-  ∷ (is_other_main name r ps || is_wrong_result p (declares_allocation name defined) r, Mismatch (place_of t))
-  ∷ (is_struct r, StructValue (place_of t))
-  ∷ (is_reserved (seen_now p) name, Reserved (place_of t)) ∷ [])
+    let name = bytes p t in
+    none_of ((is_variable p name || contradicts_earlier p name r ps defined, Redeclared (place_of t))
+    ∷ (is_other_main name r ps || is_wrong_result p (declares_allocation name defined) r, Mismatch (place_of t))
+    ∷ (is_struct r, StructValue (place_of t))
+    ∷ (is_reserved (seen_now p) name, Reserved (place_of t)) ∷ [])
 
 -- the parameters of a function without body have no names
 abbrev pub without_name : Named → Named
@@ -165,4 +165,4 @@ function result t xs body p = do
   ps ← parameters p (declares_allocation (bytes p t) (is_some body)) [] xs
   _ ← declarable_function p t r ps (is_some body)
   let name = bytes p t in let number = function_number p.functions name in
-    defined_as (with_function p name r ps number) (number_or number (length p.functions)) name r ps body
+      defined_as (with_function p name r ps number) (number_or number (length p.functions)) name r ps body

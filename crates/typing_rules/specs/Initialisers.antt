@@ -1,5 +1,5 @@
 -- Initialisers (C11 6.7.9): one part a cell, in ascending order. Braces follow the shape of the type, and what is left out is zero or null.
-use Rattle.std.specs.Prelude.{ℕ, pos, Bool, true, false, not, if◌then◌else◌, List, [], ◌∷◌, ◌++◌, map, flat_map, replicate, slice_get, codes, Option, Some, None, Result, Ok, Err}
+use Rattle.std.specs.Prelude.{pos, Bool, false, not, if◌then◌else◌, List, [], ◌∷◌, ◌++◌, map, flat_map, replicate, slice_get, codes, Option, Some, None, Ok, Err}
 use Rattle.std.specs.Str.{bytes_eq}
 use Rattle.c_lexer.specs.declared.token.Place.{Place}
 use Rattle.step_meaning.specs.declared.value.CType.{CType, end_of-CType, more_of-CType}
@@ -15,7 +15,7 @@ use Rattle.step_meaning.specs.TypeRules.{is_scalar}
 use Rattle.step_meaning.specs.Conversions.{same_int_kind}
 use Rattle.typing_rules.specs.declared.fault.TypeFault.TheVariants.{BadInitialiser}
 use Rattle.typing_rules.specs.Checked.{Checked, ◌>>=◌, kept, unless}
-use Rattle.typing_rules.specs.Syntax.{Expression, Number, Initialiser, Value, Braces, Initialisers, NoElement, Element}
+use Rattle.typing_rules.specs.Syntax.{Number, Initialiser, Value, Braces, Initialisers, NoElement, Element}
 use Rattle.typing_rules.specs.Operands.{fitted}
 use Rattle.typing_rules.specs.Environment.{Environment, place_of, bytes_in}
 use Rattle.typing_rules.specs.ConstantExpressions.{initial_value}

@@ -1,24 +1,19 @@
 -- Judgements on types: what an operator does with operands of these types, or nothing where a rule on types is broken (C11 6.5). Nothing is built here.
 -- `null` says of an operand that it is a null pointer constant, and `same` that both operands have the same type.
-use Rattle.std.specs.Prelude.{ℕ, Bool, true, false, ◌&&◌, ◌||◌, not, if◌then◌else◌, Option, Some, None}
+use Rattle.std.specs.Prelude.{Bool, true, false, ◌&&◌, if◌then◌else◌, Option, Some, None}
 use Rattle.c_grammar.specs.declared.word.Word.{Word}
 use Rattle.c_grammar.specs.declared.word.Word.TheVariants as w
 use Rattle.step_meaning.specs.declared.value.IntKind.{IntKind}
-use Rattle.step_meaning.specs.declared.value.IntKind.TheVariants as kind
 use Rattle.step_meaning.specs.declared.value.CType.{CType, end_of-CType, more_of-CType}
 use Rattle.step_meaning.specs.declared.value.CType.TheVariants as type
 use Rattle.step_meaning.specs.declared.expr.IntOp.{IntOp}
 use Rattle.step_meaning.specs.declared.expr.IntOp.TheVariants as op
-use Rattle.step_meaning.specs.declared.expr.UnaryOp.{UnaryOp}
-use Rattle.step_meaning.specs.declared.expr.UnaryOp.TheVariants as unary
 use Rattle.step_meaning.specs.declared.expr.CompareOp.{CompareOp}
 use Rattle.step_meaning.specs.declared.expr.CompareOp.TheVariants as comparing
-use Rattle.step_meaning.specs.declared.expr.Side.{Side}
 use Rattle.step_meaning.specs.declared.expr.Side.TheVariants.{PointerFirst, PointerLast, Minus}
-use Rattle.step_meaning.specs.Types.{same_type, where_true}
-use Rattle.step_meaning.specs.TypeRules.{is_scalar}
+use Rattle.step_meaning.specs.Types.{where_true}
 use Rattle.step_meaning.specs.Conversions.{promoted, common}
-use Rattle.step_meaning.specs.ExpressionTypes.{is_void, is_shift, is_equality}
+use Rattle.step_meaning.specs.ExpressionTypes.{is_shift, is_equality}
 use Rattle.typing_rules.specs.declared.judgement.Shape.{Shape}
 use Rattle.typing_rules.specs.declared.judgement.Shape.TheVariants.{Integer, ToObject, ToVoid, NoValue, Aggregate}
 use Rattle.typing_rules.specs.declared.judgement.Operator.{Operator}
@@ -34,7 +29,7 @@ use Rattle.typing_rules.specs.declared.judgement.CastConversion.TheVariants as c
 use Rattle.typing_rules.specs.declared.judgement.CompoundOperation.{CompoundOperation}
 use Rattle.typing_rules.specs.declared.judgement.CompoundOperation.TheVariants.{OnIntegers, Forward, Backward}
 use Rattle.typing_rules.specs.declared.operand.Origin.{Origin}
-use Rattle.typing_rules.specs.declared.operand.Origin.TheVariants.{ZeroLiteral, NullPointer, Allocation, Other}
+use Rattle.typing_rules.specs.declared.operand.Origin.TheVariants.{ZeroLiteral, NullPointer, Allocation}
 
 -- ---- what the judgements see of a type
 

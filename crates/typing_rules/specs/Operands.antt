@@ -1,5 +1,5 @@
 -- Operands and their values (C11 6.3.2.1), and conversions as an assignment makes them (C11 6.5.16.1).
-use Rattle.std.specs.Prelude.{ℕ, pos, Bool, false, if◌then◌else◌, Option, Some, None, Result, Ok, Err}
+use Rattle.std.specs.Prelude.{pos, if◌then◌else◌, Ok, Err}
 use Rattle.c_lexer.specs.declared.token.Place.{Place}
 use Rattle.step_meaning.specs.declared.value.IntKind.{IntKind}
 use Rattle.step_meaning.specs.declared.value.IntKind.TheVariants as kind

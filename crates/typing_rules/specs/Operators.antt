@@ -1,5 +1,5 @@
 -- What operators make of values: binary operators (C11 6.5.5 to 6.5.14), `? :` (6.5.15), casts (6.5.4) and unary operators (6.5.3).
-use Rattle.std.specs.Prelude.{ℕ, if◌then◌else◌, List, Option, Some, None, Result, Ok, Err}
+use Rattle.std.specs.Prelude.{ℕ, if◌then◌else◌, List, Ok, Err}
 use Rattle.c_lexer.specs.declared.token.Place.{Place}
 use Rattle.step_meaning.specs.declared.value.IntKind.{IntKind}
 use Rattle.step_meaning.specs.declared.value.IntKind.TheVariants as kind

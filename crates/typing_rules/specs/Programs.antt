@@ -1,5 +1,5 @@
 -- Programs (C11 6.9): the items in text order, then what is asked of the whole text.
-use Rattle.std.specs.Prelude.{ℕ, ◌+◌, Bool, true, false, ◌&&◌, not, nat_le, if◌then◌else◌, List, [], ◌∷◌, length, sum_by, codes, Option, Some, None, Result, Ok, Err}
+use Rattle.std.specs.Prelude.{ℕ, ◌+◌, Bool, false, ◌&&◌, not, nat_le, if◌then◌else◌, List, [], ◌∷◌, length, sum_by, codes, Option, Some, None, Ok}
 use Rattle.c_lexer.specs.declared.token.Place.{Place}
 use Rattle.c_grammar.specs.declared.word.Mode.{Mode}
 use Rattle.c_grammar.specs.declared.word.Mode.TheVariants as mode

@@ -1,5 +1,5 @@
 -- Definitions of structs (C11 6.7.2.1).
-use Rattle.std.specs.Prelude.{ℕ, Bool, false, not, nat_le, List, [], ◌∷◌, ◌++◌, sum_by, Result, Ok, Err}
+use Rattle.std.specs.Prelude.{ℕ, Bool, false, not, nat_le, List, [], ◌∷◌, ◌++◌, sum_by, Ok}
 use Rattle.std.specs.List.{list_any}
 use Rattle.std.specs.Str.{bytes_eq}
 use Rattle.c_grammar.specs.declared.word.Leaf.{Leaf}
@@ -23,7 +23,7 @@ module _ (g : Environment) where
   member base ms d = do
     ls ← layers g 1 d.modifiers
     let name = bytes_in g d.name in let t = layered ls base in
-      declarable g (place_of d.name) (has_member ms name) (not (is_complete_in g t)) false (is_reserved g name) t >>= (λ u. Ok (ms ++ (record { name = name; ctype = t } ∷ [])))
+        declarable g (place_of d.name) (has_member ms name) (not (is_complete_in g t)) false (is_reserved g name) t >>= (λ u. Ok (ms ++ (record { name = name; ctype = t } ∷ [])))
 
   unfoldable pub member_list : CType → List Named → List Declarator → Checked (List Named)
   member_list base ms [] = Ok ms

@@ -1,5 +1,5 @@
 -- Elements of arrays and members of structs (C11 6.5.2.1, 6.5.2.3).
-use Rattle.std.specs.Prelude.{ℕ, if◌then◌else◌, List, take, sum_by, position, slice_get, Option, Some, None, option_and_then, option_map, Result, Ok, Err}
+use Rattle.std.specs.Prelude.{ℕ, if◌then◌else◌, List, take, sum_by, position, slice_get, Option, option_and_then, option_map, Ok, Err}
 use Rattle.std.specs.Str.{bytes_eq}
 use Rattle.c_lexer.specs.declared.token.Place.{Place}
 use Rattle.step_meaning.specs.declared.value.CType.{CType, end_of-CType, more_of-CType}

@@ -1,5 +1,5 @@
 -- The abstract syntax of declarators, initialisers, statements and programs.
-use Rattle.std.specs.Prelude.{ℕ, List, [], ◌∷◌, ◌++◌, map, length, replicate, Option, Some, None, option_map}
+use Rattle.std.specs.Prelude.{List, [], ◌∷◌, ◌++◌, map, length, replicate, Option, Some, None, option_map}
 use Rattle.c_grammar.specs.declared.word.Leaf.{Leaf}
 use Rattle.c_grammar.specs.declared.chain.Chain.{Chain}
 use Rattle.c_grammar.specs.declared.chain.Link.{Link}
@@ -7,7 +7,6 @@ use Rattle.c_grammar.specs.declared.types.Integer.{Integer}
 use Rattle.c_grammar.specs.declared.types.Integer.TheVariants as i
 use Rattle.c_grammar.specs.declared.types.Specifier.{Specifier}
 use Rattle.c_grammar.specs.declared.types.Specifier.TheVariants as s
-use Rattle.c_grammar.specs.declared.types.Base.{Base}
 use Rattle.c_grammar.specs.declared.types.Star.{Star}
 use Rattle.c_grammar.specs.declared.declaration.Direct.TheOpen.{Declarator-F, Direct-F}
 use Rattle.c_grammar.specs.declared.declaration.Declarator.{Declarator, fold-Declarator}

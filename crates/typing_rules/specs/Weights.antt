@@ -1,10 +1,9 @@
 -- Weighted nodes: the nodes of expressions, one for each statement and each declarator. The step of a `for` and the test of a `do` count once more for each `continue` of that loop.
-use Rattle.std.specs.Prelude.{ℕ, suc, ◌+◌, ◌*◌, List, [], ◌∷◌, sum_by, Option, Some, None}
+use Rattle.std.specs.Prelude.{ℕ, suc, ◌+◌, ◌*◌, List, sum_by, Option, Some, None}
 use Rattle.step_meaning.specs.declared.stmt.Stmt.{Stmt, Row_of-Stmt, end_of-Stmt, more_of-Stmt}
-use Rattle.step_meaning.specs.declared.stmt.Stmt.TheVariants as core
 use Rattle.step_meaning.specs.declared.stmt.Stmt.TheVariants.{Init, Block', If', While', Do', For'}
 use Rattle.step_meaning.specs.declared.program.Function.{Function as CoreFunction}
-use Rattle.typing_rules.specs.Syntax.{Expression, Modifier, PointerTo, ArrayUnsized, ArrayOf, Declarator, Initialiser, Value, Braces, Initialisers, NoElement, Element, Declared, Local, Parameter, Statement, Nothing, Evaluate, Block, Declare, If, IfElse, While, Do, For, Break, Continue, Return, Ghost, Assert, Statements, End, Next, ForFirst, NoFirst, FirstValue, FirstLocal, Members, Item, Struct, Variables, Function, Meta, GhostVariable}
+use Rattle.typing_rules.specs.Syntax.{Expression, Modifier, ArrayOf, Initialiser, Value, Braces, Initialisers, NoElement, Element, Declared, Statement, Nothing, Evaluate, Block, Declare, If, IfElse, While, Do, For, Break, Continue, Return, Ghost, Assert, Statements, End, Next, ForFirst, NoFirst, FirstValue, FirstLocal, Item, Struct, Variables, Function}
 use Rattle.typing_rules.specs.Nodes.{nodes}
 
 abbrev pub nodes_there : Option Expression → ℕ

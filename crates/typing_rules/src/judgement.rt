@@ -116,6 +116,7 @@ fn is_promoted(kind: IntKind) -> bool
     }
 }
 
+/// The kind that the integer promotions leave (C11 6.3.1.1, 2).
 pub fn promoted(kind: IntKind) -> IntKind
     ensures { result ≡ kinds.promoted kind }
 {
@@ -137,6 +138,7 @@ fn common_of_promoted(k: IntKind, l: IntKind) -> IntKind
     }
 }
 
+/// The common kind of two operands, by the usual arithmetic conversions (C11 6.3.1.8).
 pub fn common(k: IntKind, l: IntKind) -> IntKind
     ensures { result ≡ kinds.common k l }
 {
@@ -159,6 +161,7 @@ fn on_integers(op: IntOp, k: IntKind, l: IntKind) -> Operation
     }
 }
 
+/// The shape of a pointer to the type.
 #[tactic(auto, using(crate::proofs::Shapes::shapes))]
 fn shape_behind(t: &CType) -> Shape
     ensures { result ≡ spec.shape (types.pointer_to t.now) }
@@ -170,6 +173,7 @@ fn shape_behind(t: &CType) -> Shape
     }
 }
 
+/// The shape of the type.
 #[tactic(auto, using(crate::proofs::Shapes::shapes))]
 pub fn shape_of(t: &CType) -> Shape
     ensures { result ≡ spec.shape t.now }
@@ -182,6 +186,7 @@ pub fn shape_of(t: &CType) -> Shape
     }
 }
 
+/// Whether the type is an integer or a pointer type (C11 6.2.5, 21).
 pub fn is_scalar_shape(t: Shape) -> bool
     ensures { result ≡ spec.is_scalar_shape t }
 {
@@ -191,6 +196,7 @@ pub fn is_scalar_shape(t: Shape) -> bool
     }
 }
 
+/// Whether the type is a pointer type.
 pub fn is_pointer(t: Shape) -> bool
     ensures { result ≡ spec.is_pointer t }
 {
@@ -309,6 +315,7 @@ pub fn binary_operation(
     }
 }
 
+/// How a value of the second type is brought to the first, as if by assignment; none where it isn't (C11 6.5.16.1, 1).
 #[tactic(auto, unfolding(crate::specs::Judgements::conversion))]
 pub fn assignment_conversion(to: Shape, t: Shape, null: bool, alike: bool) -> Option<Conversion>
     ensures { result ≡ spec.conversion to t null alike }
@@ -337,6 +344,7 @@ fn are_alike(t: Shape, alike: bool) -> bool
     }
 }
 
+/// Which operands of these types `?:` selects from; none where it takes none such (C11 6.5.15, 3).
 #[tactic(auto, unfolding(crate::specs::Judgements::selection))]
 pub fn selection_of(t: Shape, first: bool, u: Shape, second: bool, alike: bool) -> Option<Selection>
     ensures { result ≡ spec.selection t first u second alike }

@@ -4,3 +4,4 @@
 pub mod fault;
 pub mod judgement;
 pub mod operand;
+pub mod spelling;
