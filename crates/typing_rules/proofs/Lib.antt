@@ -2,6 +2,7 @@ pub mod Shapes
 pub mod ExpressionAlternatives
 pub mod DeclarationAlternatives
 pub mod StatementAlternatives
+pub mod ObjectTypes
 mod ExampleTexts
 mod WorkedExamples
 mod NameExamples
