@@ -15,3 +15,4 @@ mod StatementExamples
 mod LimitExamples
 mod CoreExamples
 mod TreeExamples
+mod FileCellExamples
