@@ -3,6 +3,9 @@ pub mod ExpressionAlternatives
 pub mod DeclarationAlternatives
 pub mod StatementAlternatives
 pub mod ObjectTypes
+pub mod Objects
+pub mod ChainLaws
+pub mod Levels
 mod ExampleTexts
 mod WorkedExamples
 mod NameExamples

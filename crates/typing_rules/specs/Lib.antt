@@ -20,3 +20,4 @@ pub mod FileScope
 pub mod Structs
 pub mod Functions
 pub mod Programs
+pub mod Chains
