@@ -1,4 +1,4 @@
-//! Operands: what an expression is, before a rule takes it. Each type here is let go by this crate alone, so that no crate above proves it again.
+//! Operands: what an expression is, before a rule takes it. They hold trees as parts, which the crates of the trees let go.
 
 ghost use Rattle.std.specs.Prelude.{◌≡◌, IfOk};
 
@@ -70,6 +70,7 @@ pub enum Origin {
 }
 
 /// What an expression is.
+#[derive(Drop)]
 pub enum What {
     /// An lvalue, and the type of its object (C11 6.3.2.1, 1).
     At(PlacePart, TypePart),
@@ -77,31 +78,15 @@ pub enum What {
     Made(Origin, ExprPart, TypePart),
 }
 
-impl Drop for What {
-    fn drop(self) {
-        match self {
-            What::At(_place, _ctype) => {}
-            What::Made(_origin, _expr, _ctype) => {}
-        }
-    }
-}
-
 /// What an expression is, and where its first token stands.
+#[derive(Drop)]
 pub struct Operand {
     pub first: Place,
     pub what: What,
 }
 
-impl Drop for Operand {
-    fn drop(self) {
-        let Operand {
-            first: _first,
-            what: _what,
-        } = self;
-    }
-}
-
 /// A value of a scalar type, or none where the type is `void`.
+#[derive(Drop)]
 pub struct Value {
     /// The place of the expression's first token.
     pub first: Place,
@@ -110,30 +95,11 @@ pub struct Value {
     pub origin: Origin,
 }
 
-impl Drop for Value {
-    fn drop(self) {
-        let Value {
-            first: _first,
-            expr: _expr,
-            ctype: _ctype,
-            origin: _origin,
-        } = self;
-    }
-}
-
 /// What a name stands for (C11 6.2.1).
+#[derive(Drop)]
 pub enum Entry {
     /// A variable and its type.
     Variable(Variable, TypePart),
     /// A function's number, the type of its value, and the types of its parameters.
-    Function(u32, TypePart, Items<CType>),
-}
-
-impl Drop for Entry {
-    fn drop(self) {
-        match self {
-            Entry::Variable(_variable, _ctype) => {}
-            Entry::Function(_number, _result, _parameters) => {}
-        }
-    }
+    Function(u32, TypePart, Items<TypePart>),
 }
