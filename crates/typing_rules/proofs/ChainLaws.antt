@@ -1,10 +1,9 @@
 -- A chain from the left goes on link by link.
-use Rattle.std.proofs.Common.{◌≡◌, List, [], ◌∷◌, Ok, Err, refl, sym, ap, ◌∙◌}
+use Rattle.std.proofs.Common.{◌≡◌, List, [], ◌∷◌, Ok, Err, refl, ◌∙◌}
 use Rattle.c_grammar.specs.declared.word.Leaf.{Leaf}
 use Rattle.c_grammar.specs.declared.chain.Chain.{Chain}
 use Rattle.c_grammar.specs.declared.chain.Link.{Link}
 use Rattle.typing_rules.specs.declared.operand.Operand.{Operand}
-use Rattle.typing_rules.specs.declared.operand.Value.{Value}
 use Rattle.typing_rules.specs.Checked.{Checked, ◌>>=◌}
 use Rattle.typing_rules.specs.Syntax as syntax
 use Rattle.typing_rules.specs.Syntax.{Expression}

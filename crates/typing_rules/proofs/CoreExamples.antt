@@ -26,9 +26,9 @@ use Rattle.step_meaning.specs.declared.program.Function.{Function as CoreFunctio
 use Rattle.step_meaning.specs.declared.program.Core.{Core}
 use Rattle.step_meaning.specs.ExpressionTypes.{pointer_to}
 use Rattle.step_meaning.specs.Library.{int as int_type, unsigned_long as unsigned_long_type, void_pointer}
-use Rattle.typing_rules.specs.Syntax.{Name, Number, Character, Paren, Call, Index, Member, Arrow, Increment, Decrement, Prefix, Cast, SizeOf, SizeOfType, Binary, Choose, Assign, NoMore, Then, PointerTo, ArrayOf, Value, Braces, NoElement, Element, FirstLocal, Nothing, Evaluate, Block, Declare, IfElse, While, Do, For, Break, Continue, Return, End, Next, Struct, Variables, Function, Item}
+use Rattle.typing_rules.specs.Syntax.{Name, Number, Character, Paren, Call, Index, Member, Arrow, Increment, Decrement, Prefix, Cast, SizeOf, SizeOfType, Binary, Choose, Assign, NoMore, Then, PointerTo, ArrayOf, Value, Braces, NoElement, Element, NoFirst, FirstValue, FirstLocal, Nothing, Evaluate, Block, Declare, If, IfElse, While, Do, For, Break, Continue, Return, End, Next, Struct, Variables, Function, Item}
 use Rattle.typing_rules.specs.Programs.{elaborated}
-use Rattle.typing_rules.proofs.ExampleTexts.{name, number, suffixed, character, word, mark, int, char, unsigned, void, declarator, declared, parameter, local, members, spelled, struct}
+use Rattle.typing_rules.proofs.ExampleTexts.{name, number, suffixed, character, word, mark, int, char, unsigned_char, short, unsigned, long, unsigned_long, void, declarator, declared, parameter, local, members, spelled, struct}
 use Rattle.typing_rules.specs.Checked as checked_rules
 use Rattle.typing_rules.specs.Environment as environment_rules
 use Rattle.typing_rules.specs.Nodes as nodes_rules
@@ -170,3 +170,48 @@ calls_core = (core_of ([]) ([]) ([]) ((function (codes "f") int_type 2 ((variabl
 pub calls : elaborated mode.Source calls_text calls_items ≡ Ok calls_core
 unfolding checked_rules.kept checked_rules.unless checked_rules.none_of environment_rules.found_in environment_rules.found environment_rules.specified environment_rules.with_stars environment_rules.spelled_type nodes_rules.first_place judgements_rules.shape judgements_rules.on_pointers judgements_rules.arithmetic judgements_rules.relation judgements_rules.operation judgements_rules.conversion judgements_rules.selection judgements_rules.cast_conversion judgements_rules.compound_operation operands_rules.loaded operands_rules.value operands_rules.condition operands_rules.brought operands_rules.fitted operators_rules.unit operators_rules.computed operators_rules.combined operators_rules.selected operators_rules.choice_of operators_rules.cast_by operators_rules.cast operators_rules.promoting operators_rules.negation operators_rules.address operators_rules.dereferenced assignments_rules.assigned assignments_rules.updated assignments_rules.compound assignments_rules.stepped subobjects_rules.base_of subobjects_rules.indexed subobjects_rules.dot subobjects_rules.arrow allocation_rules.objects allocation_rules.product allocation_rules.allocated allocation_rules.freed expressions_rules.full expressions_rules.operand expressions_rules.arguments expressions_rules.only_value expressions_rules.only_request expressions_rules.requested expressions_rules.measured constant_expressions_rules.is_constant constant_expressions_rules.value_of constant_expressions_rules.constant constant_expressions_rules.size_of_array constant_expressions_rules.part_of constant_expressions_rules.initial_value declarations_rules.size declarations_rules.layers declarations_rules.layered declarations_rules.element_number declarations_rules.is_complete declarations_rules.is_within_limit initialisers_rules.parts initialisers_rules.zeros initialisers_rules.alone initialisers_rules.all_alone initialisers_rules.cells initialisers_rules.elements statements_rules.in_scope statements_rules.init_statements statements_rules.declare_one statements_rules.declare_all statements_rules.declare statements_rules.statement statements_rules.statements weights_rules.declared_weight weights_rules.item_weight weights_rules.initialiser_nodes weights_rules.elements_nodes weights_rules.continues weights_rules.all_continues weights_rules.statement_weight weights_rules.statements_weight file_scope_rules.file_scope file_scope_rules.variable file_scope_rules.variables structs_rules.member structs_rules.member_list structs_rules.all_members structs_rules.structure functions_rules.parameter functions_rules.parameters functions_rules.declarable_function functions_rules.replaced functions_rules.defined_as functions_rules.function programs_rules.item programs_rules.items programs_rules.whole programs_rules.elaborated programs_rules.elaboration number_rules.radix_of number_rules.value_of number_rules.number_value number_rules.constant_of number_rules.constant_with number_rules.first_holding number_rules.constant_types number_rules.number_of number_rules.suffix_of lexeme_rules.character_value type_rows.shape-the_row-CType-0 type_rows.hidden-the_row-CType-0 expression_rows.shape-the_row-Expr-0 expression_rows.hidden-the_row-Expr-0 expression_rows.shape-the_row-Expr-1 expression_rows.hidden-the_row-Expr-1 expression_rows.shape-the_row-Place_-2 expression_rows.hidden-the_row-Place_-2 statement_rows.shape-the_row-Stmt-0 statement_rows.hidden-the_row-Stmt-0 statement_rows.shape-the_row-Stmt-1 statement_rows.hidden-the_row-Stmt-1 hidden
 calls = refl
+
+-- a function without body has parameters without names:
+-- extern int f(int a, char *b); void h(void); static int g[2]; void h(void) { ; } int main(void) { h(); return g[1]; }
+abbrev pub prototypes_text : List ℕ
+prototypes_text = codes "extern int f(int a, char *b); void h(void); static int g[2]; void h(void) { ; } int main(void) { h(); return g[1]; }"
+
+abbrev pub prototypes_items : List Item
+prototypes_items = ((Function (spelled (int 7 10) 0) (name 11 12) ((parameter (int 13 16) (Some (name 17 18)) (word w.Int 13 16) []) ∷ (parameter (char 20 24) (Some (name 26 27)) (word w.Char 20 24) (PointerTo ∷ [])) ∷ []) None) ∷ (Function (spelled (void 30 34) 0) (name 35 36) [] None) ∷ (Variables (int 51 54) ((declared (name 55 56) ((ArrayOf (Number (number 57 58))) ∷ []) None) ∷ [])) ∷ (Function (spelled (void 61 65) 0) (name 66 67) [] (Some (Next Nothing End))) ∷ (Function (spelled (int 80 83) 0) (name 84 88) [] (Some (Next (Evaluate (Call (name 97 98) NoMore)) (Next (Return (word w.Return 102 108) (Some (Index (Name (name 109 110)) (mark w.LeftBracket 110 111) (Number (number 111 112))))) End)))) ∷ [])
+
+abbrev pub prototypes_core : Core
+prototypes_core = (core_of ([]) ((variable (codes "g") (array_of int_type 2)) ∷ []) (((value.Int (pos 0)) ∷ (value.Int (pos 0)) ∷ []) ∷ []) ((function (codes "f") int_type 2 (variable [] int_type ∷ variable [] (pointer_to (type.Int kind.Char)) ∷ []) None) ∷ (function (codes "h") type.Void 0 [] (Some (s.Empty ∷ []))) ∷ (function (codes "main") int_type 0 ([]) (Some ((s.Eval (e.Invoke 5 [])) ∷ (s.Return (Some (e.Load (e.Index (global 0) (e.Literal kind.Int (pos 1)) 1) int_type))) ∷ []))) ∷ []) 6)
+
+pub prototypes : elaborated mode.Source prototypes_text prototypes_items ≡ Ok prototypes_core
+unfolding checked_rules.kept checked_rules.unless checked_rules.none_of environment_rules.found_in environment_rules.found environment_rules.specified environment_rules.with_stars environment_rules.spelled_type nodes_rules.first_place judgements_rules.shape judgements_rules.on_pointers judgements_rules.arithmetic judgements_rules.relation judgements_rules.operation judgements_rules.conversion judgements_rules.selection judgements_rules.cast_conversion judgements_rules.compound_operation operands_rules.loaded operands_rules.value operands_rules.condition operands_rules.brought operands_rules.fitted operators_rules.unit operators_rules.computed operators_rules.combined operators_rules.selected operators_rules.choice_of operators_rules.cast_by operators_rules.cast operators_rules.promoting operators_rules.negation operators_rules.address operators_rules.dereferenced assignments_rules.assigned assignments_rules.updated assignments_rules.compound assignments_rules.stepped subobjects_rules.base_of subobjects_rules.indexed subobjects_rules.dot subobjects_rules.arrow allocation_rules.objects allocation_rules.product allocation_rules.allocated allocation_rules.freed expressions_rules.full expressions_rules.operand expressions_rules.arguments expressions_rules.only_value expressions_rules.only_request expressions_rules.requested expressions_rules.measured constant_expressions_rules.is_constant constant_expressions_rules.value_of constant_expressions_rules.constant constant_expressions_rules.size_of_array constant_expressions_rules.part_of constant_expressions_rules.initial_value declarations_rules.size declarations_rules.layers declarations_rules.layered declarations_rules.element_number declarations_rules.is_complete declarations_rules.is_within_limit initialisers_rules.parts initialisers_rules.zeros initialisers_rules.alone initialisers_rules.all_alone initialisers_rules.cells initialisers_rules.elements statements_rules.in_scope statements_rules.init_statements statements_rules.declare_one statements_rules.declare_all statements_rules.declare statements_rules.statement statements_rules.statements weights_rules.declared_weight weights_rules.item_weight weights_rules.initialiser_nodes weights_rules.elements_nodes weights_rules.continues weights_rules.all_continues weights_rules.statement_weight weights_rules.statements_weight file_scope_rules.file_scope file_scope_rules.variable file_scope_rules.variables structs_rules.member structs_rules.member_list structs_rules.all_members structs_rules.structure functions_rules.parameter functions_rules.parameters functions_rules.declarable_function functions_rules.replaced functions_rules.defined_as functions_rules.function programs_rules.item programs_rules.items programs_rules.whole programs_rules.elaborated programs_rules.elaboration number_rules.radix_of number_rules.value_of number_rules.number_value number_rules.constant_of number_rules.constant_with number_rules.first_holding number_rules.constant_types number_rules.number_of number_rules.suffix_of lexeme_rules.character_value type_rows.shape-the_row-CType-0 type_rows.hidden-the_row-CType-0 expression_rows.shape-the_row-Expr-0 expression_rows.hidden-the_row-Expr-0 expression_rows.shape-the_row-Expr-1 expression_rows.hidden-the_row-Expr-1 expression_rows.shape-the_row-Place_-2 expression_rows.hidden-the_row-Place_-2 statement_rows.shape-the_row-Stmt-0 statement_rows.hidden-the_row-Stmt-0 statement_rows.shape-the_row-Stmt-1 statement_rows.hidden-the_row-Stmt-1 hidden
+prototypes = refl
+
+-- declarations without initialiser, and parts of statements that are left out:
+-- void f(int n) { int i; for (i = 0; i < n; ++i) ; for (;;) break; if (n) { } n %= 3; return; } int main(void) { f(2); return 0; }
+abbrev pub omissions_text : List ℕ
+omissions_text = codes "void f(int n) { int i; for (i = 0; i < n; ++i) ; for (;;) break; if (n) { } n %= 3; return; } int main(void) { f(2); return 0; }"
+
+abbrev pub omissions_items : List Item
+omissions_items = ((Function (spelled (void 0 4) 0) (name 5 6) ((parameter (int 7 10) (Some (name 11 12)) (word w.Int 7 10) []) ∷ []) (Some (Next (Declare (local (int 16 19) ((declared (name 20 21) [] None) ∷ []))) (Next (For (FirstValue (Assign (Name (name 28 29)) (mark w.Assign 30 31) (Number (number 32 33)))) (Some (Binary (Name (name 35 36)) (mark w.Less 37 38) (Name (name 39 40)))) (Some (Prefix (mark w.Increment 42 44) (Name (name 44 45)))) Nothing) (Next (For NoFirst None None (Break (word w.Break 58 63))) (Next (If (Name (name 69 70)) (Block End)) (Next (Evaluate (Assign (Name (name 76 77)) (mark w.PercentAssign 78 80) (Number (number 81 82)))) (Next (Return (word w.Return 84 90) None) End)))))))) ∷ (Function (spelled (int 94 97) 0) (name 98 102) [] (Some (Next (Evaluate (Call (name 111 112) (Then (Number (number 113 114)) NoMore))) (Next (Return (word w.Return 117 123) (Some (Number (number 124 125)))) End)))) ∷ [])
+
+abbrev pub omissions_core : Core
+omissions_core = (core_of ([]) ([]) ([]) ((function (codes "f") type.Void 1 ((variable (codes "n") int_type) ∷ (variable (codes "i") int_type) ∷ []) (Some (s.Empty ∷ (s.Block ((s.Eval (e.Assign (own_local 1) int_type (e.Literal kind.Int (pos 0)))) ∷ s.For (Some (e.Compare comparing.Less (e.Load (own_local 1) int_type) (e.Load (own_local 0) int_type))) (Some (e.Update (own_local 1) int_type (update.Integer op.Add kind.Int) (e.Literal kind.Int (pos 1)) After)) s.Empty ∷ [])) ∷ (s.For None None s.Break) ∷ (s.If (e.Load (own_local 0) int_type) (s.Block []) s.Empty) ∷ (s.Eval (e.Update (own_local 0) int_type (update.Integer op.Rem kind.Int) (e.Literal kind.Int (pos 3)) After)) ∷ (s.Return None) ∷ []))) ∷ (function (codes "main") int_type 0 ([]) (Some ((s.Eval (e.Invoke 4 ((e.Literal kind.Int (pos 2)) ∷ []))) ∷ (s.Return (Some (e.Literal kind.Int (pos 0)))) ∷ []))) ∷ []) 5)
+
+pub omissions : elaborated mode.Source omissions_text omissions_items ≡ Ok omissions_core
+unfolding checked_rules.kept checked_rules.unless checked_rules.none_of environment_rules.found_in environment_rules.found environment_rules.specified environment_rules.with_stars environment_rules.spelled_type nodes_rules.first_place judgements_rules.shape judgements_rules.on_pointers judgements_rules.arithmetic judgements_rules.relation judgements_rules.operation judgements_rules.conversion judgements_rules.selection judgements_rules.cast_conversion judgements_rules.compound_operation operands_rules.loaded operands_rules.value operands_rules.condition operands_rules.brought operands_rules.fitted operators_rules.unit operators_rules.computed operators_rules.combined operators_rules.selected operators_rules.choice_of operators_rules.cast_by operators_rules.cast operators_rules.promoting operators_rules.negation operators_rules.address operators_rules.dereferenced assignments_rules.assigned assignments_rules.updated assignments_rules.compound assignments_rules.stepped subobjects_rules.base_of subobjects_rules.indexed subobjects_rules.dot subobjects_rules.arrow allocation_rules.objects allocation_rules.product allocation_rules.allocated allocation_rules.freed expressions_rules.full expressions_rules.operand expressions_rules.arguments expressions_rules.only_value expressions_rules.only_request expressions_rules.requested expressions_rules.measured constant_expressions_rules.is_constant constant_expressions_rules.value_of constant_expressions_rules.constant constant_expressions_rules.size_of_array constant_expressions_rules.part_of constant_expressions_rules.initial_value declarations_rules.size declarations_rules.layers declarations_rules.layered declarations_rules.element_number declarations_rules.is_complete declarations_rules.is_within_limit initialisers_rules.parts initialisers_rules.zeros initialisers_rules.alone initialisers_rules.all_alone initialisers_rules.cells initialisers_rules.elements statements_rules.in_scope statements_rules.init_statements statements_rules.declare_one statements_rules.declare_all statements_rules.declare statements_rules.statement statements_rules.statements weights_rules.declared_weight weights_rules.item_weight weights_rules.initialiser_nodes weights_rules.elements_nodes weights_rules.continues weights_rules.all_continues weights_rules.statement_weight weights_rules.statements_weight file_scope_rules.file_scope file_scope_rules.variable file_scope_rules.variables structs_rules.member structs_rules.member_list structs_rules.all_members structs_rules.structure functions_rules.parameter functions_rules.parameters functions_rules.declarable_function functions_rules.replaced functions_rules.defined_as functions_rules.function programs_rules.item programs_rules.items programs_rules.whole programs_rules.elaborated programs_rules.elaboration number_rules.radix_of number_rules.value_of number_rules.number_value number_rules.constant_of number_rules.constant_with number_rules.first_holding number_rules.constant_types number_rules.number_of number_rules.suffix_of lexeme_rules.character_value type_rows.shape-the_row-CType-0 type_rows.hidden-the_row-CType-0 expression_rows.shape-the_row-Expr-0 expression_rows.hidden-the_row-Expr-0 expression_rows.shape-the_row-Expr-1 expression_rows.hidden-the_row-Expr-1 expression_rows.shape-the_row-Place_-2 expression_rows.hidden-the_row-Place_-2 statement_rows.shape-the_row-Stmt-0 statement_rows.hidden-the_row-Stmt-0 statement_rows.shape-the_row-Stmt-1 statement_rows.hidden-the_row-Stmt-1 hidden
+omissions = refl
+
+-- the usual arithmetic conversions (C11 6.3.1.8):
+-- unsigned long m; long l; unsigned u; short s; unsigned char b; int main(void) { l = u + s; m = l * m; u = b - 1; l = u - l; b++; s <<= l; l = 'a' + 4294967295; return 0x80000000 > 1; }
+abbrev pub kinds_text : List ℕ
+kinds_text = codes "unsigned long m; long l; unsigned u; short s; unsigned char b; int main(void) { l = u + s; m = l * m; u = b - 1; l = u - l; b++; s <<= l; l = 'a' + 4294967295; return 0x80000000 > 1; }"
+
+abbrev pub kinds_items : List Item
+kinds_items = ((Variables (unsigned_long 0 8) ((declared (name 14 15) [] None) ∷ [])) ∷ (Variables (long 17 21) ((declared (name 22 23) [] None) ∷ [])) ∷ (Variables (unsigned 25 33) ((declared (name 34 35) [] None) ∷ [])) ∷ (Variables (short 37 42) ((declared (name 43 44) [] None) ∷ [])) ∷ (Variables (unsigned_char 46 54) ((declared (name 60 61) [] None) ∷ [])) ∷ (Function (spelled (int 63 66) 0) (name 67 71) [] (Some (Next (Evaluate (Assign (Name (name 80 81)) (mark w.Assign 82 83) (Binary (Name (name 84 85)) (mark w.Plus 86 87) (Name (name 88 89))))) (Next (Evaluate (Assign (Name (name 91 92)) (mark w.Assign 93 94) (Binary (Name (name 95 96)) (mark w.Star 97 98) (Name (name 99 100))))) (Next (Evaluate (Assign (Name (name 102 103)) (mark w.Assign 104 105) (Binary (Name (name 106 107)) (mark w.Minus 108 109) (Number (number 110 111))))) (Next (Evaluate (Assign (Name (name 113 114)) (mark w.Assign 115 116) (Binary (Name (name 117 118)) (mark w.Minus 119 120) (Name (name 121 122))))) (Next (Evaluate (Increment (Name (name 124 125)) (mark w.Increment 125 127))) (Next (Evaluate (Assign (Name (name 129 130)) (mark w.ShiftLeftAssign 131 134) (Name (name 135 136)))) (Next (Evaluate (Assign (Name (name 138 139)) (mark w.Assign 140 141) (Binary (Character (character 142 145)) (mark w.Plus 146 147) (Number (number 148 158))))) (Next (Return (word w.Return 160 166) (Some (Binary (Number (number 167 177)) (mark w.Greater 178 179) (Number (number 180 181))))) End)))))))))) ∷ [])
+
+abbrev pub kinds_core : Core
+kinds_core = (core_of ([]) ((variable (codes "m") (type.Int kind.ULong)) ∷ (variable (codes "l") (type.Int kind.Long)) ∷ (variable (codes "u") (type.Int kind.UInt)) ∷ (variable (codes "s") (type.Int kind.Short)) ∷ (variable (codes "b") (type.Int kind.UChar)) ∷ []) (((value.Int (pos 0)) ∷ []) ∷ ((value.Int (pos 0)) ∷ []) ∷ ((value.Int (pos 0)) ∷ []) ∷ ((value.Int (pos 0)) ∷ []) ∷ ((value.Int (pos 0)) ∷ []) ∷ []) ((function (codes "main") int_type 0 ([]) (Some ((s.Eval (e.Assign (global 1) (type.Int kind.Long) (e.Convert kind.Long (e.Binary op.Add kind.UInt (e.Load (global 2) (type.Int kind.UInt)) (e.Convert kind.UInt (e.Load (global 3) (type.Int kind.Short))))))) ∷ (s.Eval (e.Assign (global 0) (type.Int kind.ULong) (e.Binary op.Mul kind.ULong (e.Convert kind.ULong (e.Load (global 1) (type.Int kind.Long))) (e.Load (global 0) (type.Int kind.ULong))))) ∷ (s.Eval (e.Assign (global 2) (type.Int kind.UInt) (e.Convert kind.UInt (e.Binary op.Sub kind.Int (e.Convert kind.Int (e.Load (global 4) (type.Int kind.UChar))) (e.Literal kind.Int (pos 1)))))) ∷ (s.Eval (e.Assign (global 1) (type.Int kind.Long) (e.Binary op.Sub kind.Long (e.Convert kind.Long (e.Load (global 2) (type.Int kind.UInt))) (e.Load (global 1) (type.Int kind.Long))))) ∷ (s.Eval (e.Update (global 4) (type.Int kind.UChar) (update.Integer op.Add kind.Int) (e.Literal kind.Int (pos 1)) Before)) ∷ (s.Eval (e.Update (global 3) (type.Int kind.Short) (update.Integer op.Shl kind.Int) (e.Load (global 1) (type.Int kind.Long)) After)) ∷ (s.Eval (e.Assign (global 1) (type.Int kind.Long) (e.Binary op.Add kind.Long (e.Convert kind.Long (e.Literal kind.Int (pos 97))) (e.Literal kind.Long (pos 4294967295))))) ∷ (s.Return (Some (e.Compare comparing.Greater (e.Literal kind.UInt (pos 2147483648)) (e.Convert kind.UInt (e.Literal kind.Int (pos 1)))))) ∷ []))) ∷ []) 4)
+
+pub kinds : elaborated mode.Source kinds_text kinds_items ≡ Ok kinds_core
+unfolding checked_rules.kept checked_rules.unless checked_rules.none_of environment_rules.found_in environment_rules.found environment_rules.specified environment_rules.with_stars environment_rules.spelled_type nodes_rules.first_place judgements_rules.shape judgements_rules.on_pointers judgements_rules.arithmetic judgements_rules.relation judgements_rules.operation judgements_rules.conversion judgements_rules.selection judgements_rules.cast_conversion judgements_rules.compound_operation operands_rules.loaded operands_rules.value operands_rules.condition operands_rules.brought operands_rules.fitted operators_rules.unit operators_rules.computed operators_rules.combined operators_rules.selected operators_rules.choice_of operators_rules.cast_by operators_rules.cast operators_rules.promoting operators_rules.negation operators_rules.address operators_rules.dereferenced assignments_rules.assigned assignments_rules.updated assignments_rules.compound assignments_rules.stepped subobjects_rules.base_of subobjects_rules.indexed subobjects_rules.dot subobjects_rules.arrow allocation_rules.objects allocation_rules.product allocation_rules.allocated allocation_rules.freed expressions_rules.full expressions_rules.operand expressions_rules.arguments expressions_rules.only_value expressions_rules.only_request expressions_rules.requested expressions_rules.measured constant_expressions_rules.is_constant constant_expressions_rules.value_of constant_expressions_rules.constant constant_expressions_rules.size_of_array constant_expressions_rules.part_of constant_expressions_rules.initial_value declarations_rules.size declarations_rules.layers declarations_rules.layered declarations_rules.element_number declarations_rules.is_complete declarations_rules.is_within_limit initialisers_rules.parts initialisers_rules.zeros initialisers_rules.alone initialisers_rules.all_alone initialisers_rules.cells initialisers_rules.elements statements_rules.in_scope statements_rules.init_statements statements_rules.declare_one statements_rules.declare_all statements_rules.declare statements_rules.statement statements_rules.statements weights_rules.declared_weight weights_rules.item_weight weights_rules.initialiser_nodes weights_rules.elements_nodes weights_rules.continues weights_rules.all_continues weights_rules.statement_weight weights_rules.statements_weight file_scope_rules.file_scope file_scope_rules.variable file_scope_rules.variables structs_rules.member structs_rules.member_list structs_rules.all_members structs_rules.structure functions_rules.parameter functions_rules.parameters functions_rules.declarable_function functions_rules.replaced functions_rules.defined_as functions_rules.function programs_rules.item programs_rules.items programs_rules.whole programs_rules.elaborated programs_rules.elaboration number_rules.radix_of number_rules.value_of number_rules.number_value number_rules.constant_of number_rules.constant_with number_rules.first_holding number_rules.constant_types number_rules.number_of number_rules.suffix_of lexeme_rules.character_value type_rows.shape-the_row-CType-0 type_rows.hidden-the_row-CType-0 expression_rows.shape-the_row-Expr-0 expression_rows.hidden-the_row-Expr-0 expression_rows.shape-the_row-Expr-1 expression_rows.hidden-the_row-Expr-1 expression_rows.shape-the_row-Place_-2 expression_rows.hidden-the_row-Place_-2 statement_rows.shape-the_row-Stmt-0 statement_rows.hidden-the_row-Stmt-0 statement_rows.shape-the_row-Stmt-1 statement_rows.hidden-the_row-Stmt-1 hidden
+kinds = refl

@@ -1,6 +1,5 @@
 -- What a level of operators comes to, by its first operand and its links.
 use Rattle.std.proofs.Common.{◌≡◌, ap, ◌∙◌}
-use Rattle.typing_rules.specs.declared.operand.Operand.{Operand}
 use Rattle.typing_rules.specs.Checked.{◌>>=◌}
 use Rattle.typing_rules.specs.Environment.{Environment}
 use Rattle.typing_rules.specs.Expressions.{operand}

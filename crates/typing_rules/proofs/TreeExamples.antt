@@ -50,7 +50,7 @@ use Rattle.typing_rules.specs.TreesOfExpressions as expression_trees
 use Rattle.typing_rules.specs.TreesOfDeclarations as trees
 use Rattle.typing_rules.specs.Programs.{elaboration, elaborated}
 use Rattle.typing_rules.proofs.CoreExamples as cores
-use Rattle.typing_rules.proofs.ExampleTexts.{name, number, suffixed, character, word, mark, int, char, unsigned, void, struct}
+use Rattle.typing_rules.proofs.ExampleTexts.{name, number, suffixed, character, word, mark, int, char, unsigned_char, short, unsigned, long, unsigned_long, void, struct}
 use Rattle.typing_rules.proofs.ExpressionAlternatives.{expressions}
 use Rattle.typing_rules.proofs.DeclarationAlternatives.{declarations}
 use Rattle.typing_rules.proofs.StatementAlternatives.{statements}
@@ -175,3 +175,39 @@ calls_syntax = simp (expressions, declarations, statements, rolled) refl
 pub calls : elaboration mode.Source cores.calls_text calls_tree ≡ Ok cores.calls_core
 unfolding elaboration
 calls = ap (elaborated mode.Source cores.calls_text) calls_syntax ∙ cores.calls
+
+-- extern int f(int a, char *b); void h(void); static int g[2]; void h(void) { ; } int main(void) { h(); return g[1]; }
+abbrev prototypes_tree : ProgramTree
+prototypes_tree = (record { items = ((m.Function ((word w.Extern 0 6) ∷ []) (based (int 7 10)) [] (name 11 12) (mark w.LeftParen 12 13) (ps.List (chained (q.Named [] (based (int 13 16)) (declarator_of [] (d.Name (name 17 18)))) ((link (mark w.Comma 18 19) (q.Named [] (based (char 20 24)) (declarator_of ((star (mark w.Star 25 26)) ∷ []) (d.Name (name 26 27))))) ∷ []))) (mark w.RightParen 27 28) (y.Absent (mark w.Semicolon 28 29))) ∷ (m.Function [] (based (void 30 34)) [] (name 35 36) (mark w.LeftParen 36 37) (ps.Void (word w.Void 37 41)) (mark w.RightParen 41 42) (y.Absent (mark w.Semicolon 42 43))) ∷ (m.Variables ((word w.Static 44 50) ∷ []) (based (int 51 54)) (chained (ds.Plain (declarator_of [] (d.Array (d.Name (name 55 56)) (mark w.LeftBracket 56 57) (c.Or (or_of (chained (and_of (chained (bit_or_of (chained (bit_xor_of (chained (bit_and_of (chained (equal_of (chained (relation_of (chained (shift_of (chained (sum_of (chained (product_of (chained (u.Postfix (postfix_of (p.Number (number 57 58)) [])) [])) [])) [])) [])) [])) [])) [])) [])) [])) []))) (mark w.RightBracket 58 59)))) []) (mark w.Semicolon 59 60)) ∷ (m.Function [] (based (void 61 65)) [] (name 66 67) (mark w.LeftParen 67 68) (ps.Void (word w.Void 68 72)) (mark w.RightParen 72 73) (y.Block (block_of (mark w.LeftBrace 74 75) ((b.Stmt (t.Empty (mark w.Semicolon 76 77))) ∷ []) (mark w.RightBrace 78 79)))) ∷ (m.Function [] (based (int 80 83)) [] (name 84 88) (mark w.LeftParen 88 89) (ps.Void (word w.Void 89 93)) (mark w.RightParen 93 94) (y.Block (block_of (mark w.LeftBrace 95 96) ((b.Stmt (t.Expression (a.Choice (c.Or (or_of (chained (and_of (chained (bit_or_of (chained (bit_xor_of (chained (bit_and_of (chained (equal_of (chained (relation_of (chained (shift_of (chained (sum_of (chained (product_of (chained (u.Postfix (postfix_of (p.Call (name 97 98) (mark w.LeftParen 98 99) None (mark w.RightParen 99 100)) [])) [])) [])) [])) [])) [])) [])) [])) [])) [])) [])))) (mark w.Semicolon 100 101))) ∷ (b.Stmt (t.Return (word w.Return 102 108) (Some (a.Choice (c.Or (or_of (chained (and_of (chained (bit_or_of (chained (bit_xor_of (chained (bit_and_of (chained (equal_of (chained (relation_of (chained (shift_of (chained (sum_of (chained (product_of (chained (u.Postfix (postfix_of (p.Name (name 109 110)) ((s.Index (mark w.LeftBracket 110 111) (a.Choice (c.Or (or_of (chained (and_of (chained (bit_or_of (chained (bit_xor_of (chained (bit_and_of (chained (equal_of (chained (relation_of (chained (shift_of (chained (sum_of (chained (product_of (chained (u.Postfix (postfix_of (p.Number (number 111 112)) [])) [])) [])) [])) [])) [])) [])) [])) [])) [])) [])))) (mark w.RightBracket 112 113)) ∷ []))) [])) [])) [])) [])) [])) [])) [])) [])) [])) []))))) (mark w.Semicolon 113 114))) ∷ []) (mark w.RightBrace 115 116)))) ∷ []) })
+
+prototypes_syntax : trees.program prototypes_tree ≡ cores.prototypes_items
+unfolding trees.operands trees.operands_there trees.declared trees.parameter trees.params trees.local trees.for_first trees.in_order trees.members trees.body trees.item trees.program trees.elements_after expression_trees.links expression_trees.chain expression_trees.listed expression_trees.listed_after expression_trees.suffixed
+prototypes_syntax = simp (expressions, declarations, statements, rolled) refl
+
+pub prototypes : elaboration mode.Source cores.prototypes_text prototypes_tree ≡ Ok cores.prototypes_core
+unfolding elaboration
+prototypes = ap (elaborated mode.Source cores.prototypes_text) prototypes_syntax ∙ cores.prototypes
+
+-- void f(int n) { int i; for (i = 0; i < n; ++i) ; for (;;) break; if (n) { } n %= 3; return; } int main(void) { f(2); return 0; }
+abbrev omissions_tree : ProgramTree
+omissions_tree = (record { items = ((m.Function [] (based (void 0 4)) [] (name 5 6) (mark w.LeftParen 6 7) (ps.List (chained (q.Named [] (based (int 7 10)) (declarator_of [] (d.Name (name 11 12)))) [])) (mark w.RightParen 12 13) (y.Block (block_of (mark w.LeftBrace 14 15) ((b.Local (l.Variables [] (based (int 16 19)) (chained (ds.Plain (declarator_of [] (d.Name (name 20 21)))) []) (mark w.Semicolon 21 22))) ∷ (b.Stmt (t.For (word w.For 23 26) (mark w.LeftParen 27 28) (f.Expression (Some (a.Assign (u.Postfix (postfix_of (p.Name (name 28 29)) [])) (mark w.Assign 30 31) (a.Choice (c.Or (or_of (chained (and_of (chained (bit_or_of (chained (bit_xor_of (chained (bit_and_of (chained (equal_of (chained (relation_of (chained (shift_of (chained (sum_of (chained (product_of (chained (u.Postfix (postfix_of (p.Number (number 32 33)) [])) [])) [])) [])) [])) [])) [])) [])) [])) [])) [])))))) (mark w.Semicolon 33 34)) (Some (a.Choice (c.Or (or_of (chained (and_of (chained (bit_or_of (chained (bit_xor_of (chained (bit_and_of (chained (equal_of (chained (relation_of (chained (shift_of (chained (sum_of (chained (product_of (chained (u.Postfix (postfix_of (p.Name (name 35 36)) [])) [])) [])) [])) ((link (mark w.Less 37 38) (shift_of (chained (sum_of (chained (product_of (chained (u.Postfix (postfix_of (p.Name (name 39 40)) [])) [])) [])) []))) ∷ []))) [])) [])) [])) [])) [])) []))))) (mark w.Semicolon 40 41) (Some (a.Choice (c.Or (or_of (chained (and_of (chained (bit_or_of (chained (bit_xor_of (chained (bit_and_of (chained (equal_of (chained (relation_of (chained (shift_of (chained (sum_of (chained (product_of (chained (u.Prefix (mark w.Increment 42 44) (u.Postfix (postfix_of (p.Name (name 44 45)) []))) [])) [])) [])) [])) [])) [])) [])) [])) [])) []))))) (mark w.RightParen 45 46) (t.Empty (mark w.Semicolon 47 48)))) ∷ (b.Stmt (t.For (word w.For 49 52) (mark w.LeftParen 53 54) (f.Expression None (mark w.Semicolon 54 55)) None (mark w.Semicolon 55 56) None (mark w.RightParen 56 57) (t.Break (word w.Break 58 63) (mark w.Semicolon 63 64)))) ∷ (b.Stmt (t.If (word w.If 65 67) (mark w.LeftParen 68 69) (a.Choice (c.Or (or_of (chained (and_of (chained (bit_or_of (chained (bit_xor_of (chained (bit_and_of (chained (equal_of (chained (relation_of (chained (shift_of (chained (sum_of (chained (product_of (chained (u.Postfix (postfix_of (p.Name (name 69 70)) [])) [])) [])) [])) [])) [])) [])) [])) [])) [])) [])))) (mark w.RightParen 70 71) (t.Block (block_of (mark w.LeftBrace 72 73) [] (mark w.RightBrace 74 75))))) ∷ (b.Stmt (t.Expression (a.Assign (u.Postfix (postfix_of (p.Name (name 76 77)) [])) (mark w.PercentAssign 78 80) (a.Choice (c.Or (or_of (chained (and_of (chained (bit_or_of (chained (bit_xor_of (chained (bit_and_of (chained (equal_of (chained (relation_of (chained (shift_of (chained (sum_of (chained (product_of (chained (u.Postfix (postfix_of (p.Number (number 81 82)) [])) [])) [])) [])) [])) [])) [])) [])) [])) [])) []))))) (mark w.Semicolon 82 83))) ∷ (b.Stmt (t.Return (word w.Return 84 90) None (mark w.Semicolon 90 91))) ∷ []) (mark w.RightBrace 92 93)))) ∷ (m.Function [] (based (int 94 97)) [] (name 98 102) (mark w.LeftParen 102 103) (ps.Void (word w.Void 103 107)) (mark w.RightParen 107 108) (y.Block (block_of (mark w.LeftBrace 109 110) ((b.Stmt (t.Expression (a.Choice (c.Or (or_of (chained (and_of (chained (bit_or_of (chained (bit_xor_of (chained (bit_and_of (chained (equal_of (chained (relation_of (chained (shift_of (chained (sum_of (chained (product_of (chained (u.Postfix (postfix_of (p.Call (name 111 112) (mark w.LeftParen 112 113) (Some (chained (a.Choice (c.Or (or_of (chained (and_of (chained (bit_or_of (chained (bit_xor_of (chained (bit_and_of (chained (equal_of (chained (relation_of (chained (shift_of (chained (sum_of (chained (product_of (chained (u.Postfix (postfix_of (p.Number (number 113 114)) [])) [])) [])) [])) [])) [])) [])) [])) [])) [])) [])))) [])) (mark w.RightParen 114 115)) [])) [])) [])) [])) [])) [])) [])) [])) [])) [])) [])))) (mark w.Semicolon 115 116))) ∷ (b.Stmt (t.Return (word w.Return 117 123) (Some (a.Choice (c.Or (or_of (chained (and_of (chained (bit_or_of (chained (bit_xor_of (chained (bit_and_of (chained (equal_of (chained (relation_of (chained (shift_of (chained (sum_of (chained (product_of (chained (u.Postfix (postfix_of (p.Number (number 124 125)) [])) [])) [])) [])) [])) [])) [])) [])) [])) [])) []))))) (mark w.Semicolon 125 126))) ∷ []) (mark w.RightBrace 127 128)))) ∷ []) })
+
+omissions_syntax : trees.program omissions_tree ≡ cores.omissions_items
+unfolding trees.operands trees.operands_there trees.declared trees.parameter trees.params trees.local trees.for_first trees.in_order trees.members trees.body trees.item trees.program trees.elements_after expression_trees.links expression_trees.chain expression_trees.listed expression_trees.listed_after expression_trees.suffixed
+omissions_syntax = simp (expressions, declarations, statements, rolled) refl
+
+pub omissions : elaboration mode.Source cores.omissions_text omissions_tree ≡ Ok cores.omissions_core
+unfolding elaboration
+omissions = ap (elaborated mode.Source cores.omissions_text) omissions_syntax ∙ cores.omissions
+
+-- unsigned long m; long l; unsigned u; short s; unsigned char b; int main(void) { l = u + s; m = l * m; u = b - 1; l = u - l; b++; s <<= l; l = 'a' + 4294967295; return 0x80000000 > 1; }
+abbrev kinds_tree : ProgramTree
+kinds_tree = (record { items = ((m.Variables [] (based (unsigned_long 0 8)) (chained (ds.Plain (declarator_of [] (d.Name (name 14 15)))) []) (mark w.Semicolon 15 16)) ∷ (m.Variables [] (based (long 17 21)) (chained (ds.Plain (declarator_of [] (d.Name (name 22 23)))) []) (mark w.Semicolon 23 24)) ∷ (m.Variables [] (based (unsigned 25 33)) (chained (ds.Plain (declarator_of [] (d.Name (name 34 35)))) []) (mark w.Semicolon 35 36)) ∷ (m.Variables [] (based (short 37 42)) (chained (ds.Plain (declarator_of [] (d.Name (name 43 44)))) []) (mark w.Semicolon 44 45)) ∷ (m.Variables [] (based (unsigned_char 46 54)) (chained (ds.Plain (declarator_of [] (d.Name (name 60 61)))) []) (mark w.Semicolon 61 62)) ∷ (m.Function [] (based (int 63 66)) [] (name 67 71) (mark w.LeftParen 71 72) (ps.Void (word w.Void 72 76)) (mark w.RightParen 76 77) (y.Block (block_of (mark w.LeftBrace 78 79) ((b.Stmt (t.Expression (a.Assign (u.Postfix (postfix_of (p.Name (name 80 81)) [])) (mark w.Assign 82 83) (a.Choice (c.Or (or_of (chained (and_of (chained (bit_or_of (chained (bit_xor_of (chained (bit_and_of (chained (equal_of (chained (relation_of (chained (shift_of (chained (sum_of (chained (product_of (chained (u.Postfix (postfix_of (p.Name (name 84 85)) [])) [])) ((link (mark w.Plus 86 87) (product_of (chained (u.Postfix (postfix_of (p.Name (name 88 89)) [])) []))) ∷ []))) [])) [])) [])) [])) [])) [])) [])) []))))) (mark w.Semicolon 89 90))) ∷ (b.Stmt (t.Expression (a.Assign (u.Postfix (postfix_of (p.Name (name 91 92)) [])) (mark w.Assign 93 94) (a.Choice (c.Or (or_of (chained (and_of (chained (bit_or_of (chained (bit_xor_of (chained (bit_and_of (chained (equal_of (chained (relation_of (chained (shift_of (chained (sum_of (chained (product_of (chained (u.Postfix (postfix_of (p.Name (name 95 96)) [])) ((link (mark w.Star 97 98) (u.Postfix (postfix_of (p.Name (name 99 100)) []))) ∷ []))) [])) [])) [])) [])) [])) [])) [])) [])) []))))) (mark w.Semicolon 100 101))) ∷ (b.Stmt (t.Expression (a.Assign (u.Postfix (postfix_of (p.Name (name 102 103)) [])) (mark w.Assign 104 105) (a.Choice (c.Or (or_of (chained (and_of (chained (bit_or_of (chained (bit_xor_of (chained (bit_and_of (chained (equal_of (chained (relation_of (chained (shift_of (chained (sum_of (chained (product_of (chained (u.Postfix (postfix_of (p.Name (name 106 107)) [])) [])) ((link (mark w.Minus 108 109) (product_of (chained (u.Postfix (postfix_of (p.Number (number 110 111)) [])) []))) ∷ []))) [])) [])) [])) [])) [])) [])) [])) []))))) (mark w.Semicolon 111 112))) ∷ (b.Stmt (t.Expression (a.Assign (u.Postfix (postfix_of (p.Name (name 113 114)) [])) (mark w.Assign 115 116) (a.Choice (c.Or (or_of (chained (and_of (chained (bit_or_of (chained (bit_xor_of (chained (bit_and_of (chained (equal_of (chained (relation_of (chained (shift_of (chained (sum_of (chained (product_of (chained (u.Postfix (postfix_of (p.Name (name 117 118)) [])) [])) ((link (mark w.Minus 119 120) (product_of (chained (u.Postfix (postfix_of (p.Name (name 121 122)) [])) []))) ∷ []))) [])) [])) [])) [])) [])) [])) [])) []))))) (mark w.Semicolon 122 123))) ∷ (b.Stmt (t.Expression (a.Choice (c.Or (or_of (chained (and_of (chained (bit_or_of (chained (bit_xor_of (chained (bit_and_of (chained (equal_of (chained (relation_of (chained (shift_of (chained (sum_of (chained (product_of (chained (u.Postfix (postfix_of (p.Name (name 124 125)) ((s.Increment (mark w.Increment 125 127)) ∷ []))) [])) [])) [])) [])) [])) [])) [])) [])) [])) [])))) (mark w.Semicolon 127 128))) ∷ (b.Stmt (t.Expression (a.Assign (u.Postfix (postfix_of (p.Name (name 129 130)) [])) (mark w.ShiftLeftAssign 131 134) (a.Choice (c.Or (or_of (chained (and_of (chained (bit_or_of (chained (bit_xor_of (chained (bit_and_of (chained (equal_of (chained (relation_of (chained (shift_of (chained (sum_of (chained (product_of (chained (u.Postfix (postfix_of (p.Name (name 135 136)) [])) [])) [])) [])) [])) [])) [])) [])) [])) [])) []))))) (mark w.Semicolon 136 137))) ∷ (b.Stmt (t.Expression (a.Assign (u.Postfix (postfix_of (p.Name (name 138 139)) [])) (mark w.Assign 140 141) (a.Choice (c.Or (or_of (chained (and_of (chained (bit_or_of (chained (bit_xor_of (chained (bit_and_of (chained (equal_of (chained (relation_of (chained (shift_of (chained (sum_of (chained (product_of (chained (u.Postfix (postfix_of (p.Character (character 142 145)) [])) [])) ((link (mark w.Plus 146 147) (product_of (chained (u.Postfix (postfix_of (p.Number (number 148 158)) [])) []))) ∷ []))) [])) [])) [])) [])) [])) [])) [])) []))))) (mark w.Semicolon 158 159))) ∷ (b.Stmt (t.Return (word w.Return 160 166) (Some (a.Choice (c.Or (or_of (chained (and_of (chained (bit_or_of (chained (bit_xor_of (chained (bit_and_of (chained (equal_of (chained (relation_of (chained (shift_of (chained (sum_of (chained (product_of (chained (u.Postfix (postfix_of (p.Number (number 167 177)) [])) [])) [])) [])) ((link (mark w.Greater 178 179) (shift_of (chained (sum_of (chained (product_of (chained (u.Postfix (postfix_of (p.Number (number 180 181)) [])) [])) [])) []))) ∷ []))) [])) [])) [])) [])) [])) []))))) (mark w.Semicolon 181 182))) ∷ []) (mark w.RightBrace 183 184)))) ∷ []) })
+
+kinds_syntax : trees.program kinds_tree ≡ cores.kinds_items
+unfolding trees.operands trees.operands_there trees.declared trees.parameter trees.params trees.local trees.for_first trees.in_order trees.members trees.body trees.item trees.program trees.elements_after expression_trees.links expression_trees.chain expression_trees.listed expression_trees.listed_after expression_trees.suffixed
+kinds_syntax = simp (expressions, declarations, statements, rolled) refl
+
+pub kinds : elaboration mode.Source cores.kinds_text kinds_tree ≡ Ok cores.kinds_core
+unfolding elaboration
+kinds = ap (elaborated mode.Source cores.kinds_text) kinds_syntax ∙ cores.kinds
