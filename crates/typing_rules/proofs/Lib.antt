@@ -6,6 +6,7 @@ pub mod ObjectTypes
 pub mod Objects
 pub mod ChainLaws
 pub mod Levels
+pub mod OperandsFit
 mod ExampleTexts
 mod WorkedExamples
 mod NameExamples
