@@ -1,5 +1,6 @@
 #!/usr/bin/env bash
-# CPU time and peak memory of `parse_program`, and of `lex` before it, on a source of 256 KiB and on woven texts up to 16 MiB.
+# CPU time and peak memory of `parse_program`, and of `lex` before it, on a source of 256 KiB and on woven texts up to 16 MiB,
+# sums and declarators with many sizes among them.
 # No command of the program calls `parse_program` alone, so this builds a program of its own over the crates, in a scratch
 # folder. Run it from the top of the repository; it proves the crates that it stands on, which takes some minutes.
 set -eu
@@ -65,6 +66,11 @@ for name, head, line, size in (
     ("woven", "//\n", WOVEN, 1 << 22),
     ("woven", "//\n", WOVEN, 1 << 24),
     ("sums", "//\n", FLAT, 1 << 24),
+    # declarators with few and with many sizes, in texts of one length
+    ("sizes", "//\n", "int x" + "[1]" * 125 + ";\n", 1 << 20),
+    ("sizes", "//\n", "int x" + "[1]" * 1000 + ";\n", 1 << 20),
+    ("parts", "//\n", "int " + "(" * 60 + "x" + ")[1]" * 60 + ";\n", 1 << 20),
+    ("parts", "//\n", "int " + "(" * 500 + "x" + ")[1]" * 500 + ";\n", 1 << 20),
 ):
     text = head + line * ((size - len(head)) // len(line))
     with open(os.path.join(folder, "p.c"), "w") as file:

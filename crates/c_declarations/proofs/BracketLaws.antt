@@ -1,17 +1,18 @@
 -- Sizes in brackets: the parser gives what stands there.
-use Rattle.std.proofs.Common.{◌≡◌, ℕ, suc, true, false, Some, refl, ap, ◌∙◌, arith}
-use Rattle.c_grammar.specs.declared.word.Word.{Word}
-use Rattle.c_grammar.specs.declared.word.Word.TheVariants as w
-use Rattle.c_grammar.specs.declared.word.Leaf.{Leaf}
+use Rattle.std.proofs.Common.{◌≡◌, ℕ, ◌<◌, suc, true, false, Some, refl, ap, subst, ◌∙◌, arith}
+use Rattle.c_words.specs.declared.word.Word.{Word}
+use Rattle.c_words.specs.declared.word.Word.TheVariants as w
+use Rattle.c_words.specs.declared.word.Leaf.{Leaf}
 use Rattle.c_grammar.specs.declared.expression.Choice.{Choice}
-use Rattle.c_grammar.specs.Words.{same}
-use Rattle.c_grammar.specs.Written.{Written, ◌then◌, one, nested, Takes}
+use Rattle.c_words.specs.Words.{same}
+use Rattle.c_words.specs.Written.{Written, ◌then◌, one, nested, Takes}
 use Rattle.c_grammar.specs.Expressions.{choice}
-use Rattle.c_grammar.specs.Parsing.{Leaves, Parser, word_at, after, expect}
-use Rattle.c_grammar.proofs.Taking.{Takes-then, then-Takes, Takes-nested, nested-Takes}
-use Rattle.c_grammar.proofs.Reading.{finish, after-one, at_one, bind_ok, gives_bind, Sound, Complete, take_if-takes, take_if-gives}
+use Rattle.c_words.specs.Parsing.{Leaves, Parser, word_at, after, expect}
+use Rattle.c_words.proofs.Taking.{Takes-then, then-Takes, Takes-nested, nested-Takes}
+use Rattle.c_words.proofs.Reading.{finish, after-one, at_one, bind_ok, gives_bind, same_pair, Sound, Complete, take_if-takes, take_if-gives}
 use Rattle.c_expressions.specs.ExpressionReading.{begins_expression, goes_on_choice}
-use Rattle.c_expressions.proofs.ExpressionLaws.{choice-Starts}
+use Rattle.c_expressions.specs.ExpressionReading.{inner_at}
+use Rattle.c_expressions.proofs.ExpressionLaws.{exact, choice-Starts}
 use Rattle.c_declarations.specs.declared.bracket.Bracket.{Bracket}
 use Rattle.c_declarations.specs.Brackets as read
 
@@ -52,3 +53,14 @@ bracket-second {n = n} l s r ts rest h =
     let a = then-Takes h in
     let b = then-Takes a.second in
     ap (λ x. same w.RightBracket (word_at x)) (after-one (same w.LeftBracket) l a.first) ∙ begins_not_bracket _ (choice-Starts.word n a.mid s b.mid (nested-Takes b.first))
+
+-- a size that was read nests below the number
+pub size_below : (n : ℕ) (ts : Leaves) (b : Bracket) (rest : Leaves) → read.bracketed (inner_at n).choice ts ≡ Some (b, rest) → (choice b.size).nesting < n
+unfolding read.bracketed
+size_below n ts b rest h =
+    let l = bind_ok (expect w.LeftBracket ts) _ b rest h in
+    let s = bind_ok ((inner_at n).choice l.mid) _ b rest l.second in
+    let r = bind_ok (expect w.RightBracket s.mid) _ b rest s.second in
+    let t = (exact n).choice_sound.takes l.mid s.value s.mid s.first in
+    let e = same_pair r.second in
+    subst (λ x. (choice x.size).nesting < n) e.0 t.below

@@ -1,22 +1,22 @@
 -- Declarators: the parser gives a tree exactly where one stands.
 use Rattle.std.proofs.Common.{◌≡◌, ℕ, zero, suc, ◌+◌, ◌-◌, ◌<◌, ◌≤◌, ltb, Bool, true, false, ◌||◌, ◌&&◌, not, List, [], ◌∷◌, ◌++◌, Some, refl, sym, ap, ap₂, subst, ◌∙◌, ⊎_elim, append_assoc, append-nil, arith}
 use Rattle.std.proofs.lemmas.Bool.{ltb-true, lt-ltb}
-use Rattle.c_grammar.specs.declared.word.Word.{Word}
-use Rattle.c_grammar.specs.declared.word.Word.TheVariants as w
-use Rattle.c_grammar.specs.declared.word.Leaf.{Leaf}
+use Rattle.c_words.specs.declared.word.Word.{Word}
+use Rattle.c_words.specs.declared.word.Word.TheVariants as w
+use Rattle.c_words.specs.declared.word.Leaf.{Leaf}
 use Rattle.c_grammar.specs.declared.types.Star.{Star}
 use Rattle.c_grammar.specs.declared.expression.Choice.{Choice}
 use Rattle.c_grammar.specs.declared.declaration.Declarator.{Declarator}
 use Rattle.c_grammar.specs.declared.declaration.Direct.{Direct}
 use Rattle.c_grammar.specs.declared.declaration.Direct.TheVariants as d
-use Rattle.c_grammar.specs.Words.{same}
-use Rattle.c_grammar.specs.Written.{Written, ◌then◌, one, one_of, nested, Takes}
+use Rattle.c_words.specs.Words.{same}
+use Rattle.c_words.specs.Written.{Written, ◌then◌, one, one_of, nested, Takes}
 use Rattle.c_grammar.specs.Types.{star, stars_before}
 use Rattle.c_grammar.specs.Expressions.{choice}
 use Rattle.c_grammar.specs.Declarations.{array_of, direct_shape, direct, declarator, is_unsized}
-use Rattle.c_grammar.specs.Parsing.{Leaves, Outcome, Parser, and_then, word_at, after, take_if, expect}
-use Rattle.c_grammar.proofs.Taking.{Takes-then, then-Takes, Takes-nested, nested-Takes, both, first_of_both, second_of_both}
-use Rattle.c_grammar.proofs.Reading.{after-one, at_one, word_is, bind_ok, gives_bind, chosen, choose, refuse_test, same_pair, Sound, Complete, Ends, Starts, take_if-takes, take_if-gives, take_if-word}
+use Rattle.c_words.specs.Parsing.{Leaves, Outcome, Parser, and_then, word_at, after, take_if, expect}
+use Rattle.c_words.proofs.Taking.{Takes-then, then-Takes, Takes-nested, nested-Takes, both, first_of_both, second_of_both}
+use Rattle.c_words.proofs.Reading.{after-one, at_one, word_is, bind_ok, gives_bind, chosen, choose, refuse_test, same_pair, Sound, Complete, Ends, Starts, take_if-takes, take_if-gives, take_if-word}
 use Rattle.c_type_names.specs.TypeReading as types
 use Rattle.c_expressions.specs.ExpressionReading.{inner_at, deep, goes_on_choice}
 use Rattle.c_declarations.specs.DeclaratorReading as read
@@ -191,6 +191,10 @@ declarator_from-takes may (suc n) found ts a rest h = ⊎_elim
 pub declarator-takes : (may : Bool) (k : ℕ) (ts : Leaves) (a : Declarator) (rest : Leaves) → read.declarator_from may k [] ts ≡ Some (a, rest) → Takes k ts (declarator a) rest × Kept may (is_unsized a)
 declarator-takes may k ts a rest h = all_of may k ts a rest (declarator_from-takes may k [] ts a rest h)
 
+-- a declarator that was read nests below the number
+pub declarator_below : (may : Bool) (k : ℕ) (ts : Leaves) (a : Declarator) (rest : Leaves) → read.declarator_from may k [] ts ≡ Some (a, rest) → (declarator a).nesting < k
+declarator_below may k ts a rest h = (declarator-takes may k ts a rest h).0.below
+
 -- ---- how declarators begin
 
 pub unnested : {k : ℕ} {ts rest : Leaves} {a : Written} → Takes k ts (nested a) rest → Takes k ts a rest
@@ -346,7 +350,7 @@ pub declarator_from-gives : (may : Bool) (k : ℕ) (found : List Star) (ts : Lea
 unfolding read.declarator_from stars_before
 declarator_from-gives may zero found ts ss x rest h kept end = absurd (omega (arith, h.below))
 declarator_from-gives may (suc n) found ts [] x rest h kept end =
-    refuse_test (same w.Star (word_at ts)) _ _ ts (direct_not_star _ (direct-Starts.word (suc n) ts x rest h))
+    refuse_test (same w.Star (word_at ts)) _ _ ts (direct_not_star (word_at ts) (direct-Starts.word (suc n) ts x rest h))
     ∙ gives_bind _ (direct-gives may n (inner_at n).choice (read.declarator_from may n []) (exact n).choice_complete
     (λ ts a rest h kept end. declarator_from-gives may n [] ts a.stars a.direct rest (subst (λ v. Takes n ts v rest) (declarator-is a) h) (subst (λ b. Kept may b) (unsized-is a) kept) end)
     x ts rest h kept end)
@@ -356,7 +360,7 @@ declarator_from-gives may (suc n) found ts (s ∷ ss) x rest h kept end =
     let inside = nested-Takes t.second in
     choose (same w.Star (word_at ts)) _ _ ts (ap (same w.Star) (star-word s t.first))
     ∙ deep-gives n (omega (arith, inside.below)) _ ts
-    ∙ gives_bind _ ((star-Complete (suc n)).gives ts s t.mid t.first (record { ends = declarator_not_const _ (stars-begin ss n x t.mid rest inside) }))
+    ∙ gives_bind _ ((star-Complete (suc n)).gives ts s t.mid t.first (record { ends = declarator_not_const (word_at t.mid) (stars-begin ss n x t.mid rest inside) }))
     (declarator_from-gives may n (found ++ s ∷ []) t.mid ss x rest inside kept end)
     ∙ ap (λ ss. let y : Declarator = record { stars = ss; direct = x } in Some (y, rest)) (append_assoc found (s ∷ []) ss)
 

@@ -1,24 +1,24 @@
 -- Initialisers and what a declaration declares: the parser gives a tree exactly where one stands.
 use Rattle.std.proofs.Common.{◌≡◌, ℕ, zero, suc, ◌-◌, ◌<◌, Bool, true, false, ◌||◌, not, [], Option, Some, None, refl, ap, subst, ◌∙◌, ⊎_elim, arith}
-use Rattle.c_grammar.specs.declared.word.Word.{Word}
-use Rattle.c_grammar.specs.declared.word.Word.TheVariants as w
-use Rattle.c_grammar.specs.declared.word.Leaf.{Leaf}
-use Rattle.c_grammar.specs.declared.chain.Chain.{Chain}
-use Rattle.c_grammar.specs.declared.operators.Operators.TheVariants as o
+use Rattle.c_words.specs.declared.word.Word.{Word}
+use Rattle.c_words.specs.declared.word.Word.TheVariants as w
+use Rattle.c_words.specs.declared.word.Leaf.{Leaf}
+use Rattle.c_words.specs.declared.chain.Chain.{Chain}
+use Rattle.c_words.specs.declared.operators.Operators.TheVariants as o
 use Rattle.c_grammar.specs.declared.declaration.Declarator.{Declarator}
 use Rattle.c_grammar.specs.declared.declaration.Init.{Init}
 use Rattle.c_grammar.specs.declared.declaration.Init.TheVariants as i
 use Rattle.c_grammar.specs.declared.declaration.Declared.{Declared}
 use Rattle.c_grammar.specs.declared.declaration.Declared.TheVariants as e
-use Rattle.c_grammar.specs.Words.{same}
-use Rattle.c_grammar.specs.Written.{nothing, ◌then◌, one, nested, only, optional, chain, Takes}
-use Rattle.c_grammar.specs.Expressions.{is_comma}
+use Rattle.c_words.specs.Words.{same}
+use Rattle.c_words.specs.Written.{nothing, ◌then◌, one, nested, only, optional, chain, Takes}
+use Rattle.c_words.specs.OperatorWords.{is_comma}
 use Rattle.c_grammar.specs.Declarations.{declarator, is_unsized, sized, init, declared}
-use Rattle.c_grammar.specs.Operators.{continues}
-use Rattle.c_grammar.specs.Parsing.{Leaves, Parser, word_at, after, expect, optional_at}
-use Rattle.c_grammar.proofs.Taking.{nothing-Takes, Takes-then, then-Takes, Takes-nested, nested-Takes, both}
-use Rattle.c_grammar.proofs.Reading.{finish, after-one, at_one, word_is, bind_ok, gives_bind, chosen, choose, refuse_test, first_of_neither, second_of_neither, Sound, Complete, Ends, Starts, take_if-takes, take_if-gives, take_if-word, optional_at-takes, optional_at-gives}
-use Rattle.c_grammar.proofs.Chains.{chain-Sound, chain-Complete, chain-Starts, chain-gives}
+use Rattle.c_words.specs.Operators.{continues}
+use Rattle.c_words.specs.Parsing.{Leaves, Parser, word_at, after, expect, optional_at}
+use Rattle.c_words.proofs.Taking.{nothing-Takes, Takes-then, then-Takes, Takes-nested, nested-Takes, both}
+use Rattle.c_words.proofs.Reading.{finish, after-one, at_one, word_is, bind_ok, gives_bind, chosen, choose, refuse_test, first_of_neither, second_of_neither, Sound, Complete, Ends, Starts, take_if-takes, take_if-gives, take_if-word, optional_at-takes, optional_at-gives}
+use Rattle.c_words.proofs.Chains.{chain-Sound, chain-Complete, chain-Starts, chain-gives}
 use Rattle.c_expressions.specs.ExpressionReading.{inner_at, begins_expression, goes_on_assign}
 use Rattle.c_declarations.specs.DeclaratorReading.{declarator_from, begins_declarator, goes_on_declarator}
 use Rattle.c_declarations.specs.DeclaredReading as read
@@ -135,7 +135,7 @@ init-Complete (suc n) = record {
   gives = λ ts a rest h end. init_cases (λ a. Takes (suc n) ts (init a) rest → read.init_at (suc n) ts ≡ Some (a, rest))
       (λ x h.
       let y = subst (λ v. Takes (suc n) ts v rest) (init-Value x) h in
-      refuse_test (same w.LeftBrace (word_at ts)) _ _ ts (begins_no_brace _ (assign-Starts.word (suc n) ts x rest y))
+      refuse_test (same w.LeftBrace (word_at ts)) _ _ ts (begins_no_brace (word_at ts) (assign-Starts.word (suc n) ts x rest y))
       ∙ gives_bind _ ((exact (suc n)).assign_complete.gives ts x rest y end) refl)
       (λ l all last r h.
       let y = subst (λ v. Takes (suc n) ts v rest) (init-Braces l all last r) h in

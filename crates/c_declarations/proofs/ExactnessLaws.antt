@@ -1,8 +1,8 @@
 -- Declared names and parameters are read exactly, and leaves spell them in one way at most.
 use Rattle.std.proofs.Common.{◌≡◌, suc, max, [], ◌∷◌, Some, refl, sym, ◌∙◌, append-nil, arith}
 use Rattle.c_grammar.specs.Declarations as grammar
-use Rattle.c_grammar.specs.Parsing.{word_at}
-use Rattle.c_grammar.proofs.Reading.{Ends, same_pair}
+use Rattle.c_words.specs.Parsing.{word_at}
+use Rattle.c_words.proofs.Reading.{Ends, same_pair}
 use Rattle.c_declarations.specs.DeclaredReading as read
 use Rattle.c_declarations.specs.Exactness.{ReadsDeclarations, ReadsParameters, HaveOneDeclaration}
 use Rattle.c_declarations.proofs.DeclaredLaws.{goes_on_all_declared, all_declared-Sound, all_declared-Complete}

@@ -1,11 +1,11 @@
 -- Parameters: the parser gives a tree exactly where one stands.
 use Rattle.std.proofs.Common.{◌≡◌, ℕ, zero, suc, ◌-◌, ◌<◌, Bool, true, false, ◌||◌, ◌&&◌, if◌then◌else◌, nat_eq, List, [], ◌∷◌, ◌++◌, length, Option, Some, None, is_none, refl, sym, ap, ap₂, subst, ◌∙◌, ⊎_elim, append-nil, arith}
 use Rattle.std.proofs.lemmas.Bool.Decides.{nat_tests}
-use Rattle.c_grammar.specs.declared.word.Word.{Word}
-use Rattle.c_grammar.specs.declared.word.Word.TheVariants as w
-use Rattle.c_grammar.specs.declared.word.Leaf.{Leaf}
-use Rattle.c_grammar.specs.declared.chain.Chain.{Chain}
-use Rattle.c_grammar.specs.declared.chain.Link.{Link}
+use Rattle.c_words.specs.declared.word.Word.{Word}
+use Rattle.c_words.specs.declared.word.Word.TheVariants as w
+use Rattle.c_words.specs.declared.word.Leaf.{Leaf}
+use Rattle.c_words.specs.declared.chain.Chain.{Chain}
+use Rattle.c_words.specs.declared.chain.Link.{Link}
 use Rattle.c_grammar.specs.declared.types.Specifier.{Specifier}
 use Rattle.c_grammar.specs.declared.types.Specifier.TheVariants as s
 use Rattle.c_grammar.specs.declared.types.Base.{Base}
@@ -16,15 +16,15 @@ use Rattle.c_grammar.specs.declared.declaration.Parameter.{Parameter}
 use Rattle.c_grammar.specs.declared.declaration.Parameter.TheVariants as p
 use Rattle.c_grammar.specs.declared.declaration.Params.{Params}
 use Rattle.c_grammar.specs.declared.declaration.Params.TheVariants as ps
-use Rattle.c_grammar.specs.Words.{same}
-use Rattle.c_grammar.specs.Written.{Written, ◌then◌, one, run, links, chain, Takes}
+use Rattle.c_words.specs.Words.{same}
+use Rattle.c_words.specs.Written.{Written, ◌then◌, one, run, links, chain, Takes}
 use Rattle.c_grammar.specs.Types.{specifier, base, consts, stars_alone, stars_before}
-use Rattle.c_grammar.specs.Expressions.{is_comma}
+use Rattle.c_words.specs.OperatorWords.{is_comma}
 use Rattle.c_grammar.specs.Declarations.{direct, declarator, sizes, nameless, parameter, void_by, void_of, lone_void, params}
-use Rattle.c_grammar.specs.Parsing.{Leaves, Outcome, and_then, pure, word_at, chain_at}
-use Rattle.c_grammar.proofs.Taking.{Takes-nothing, nothing-Takes, Takes-then, then-Takes, Takes-nested, nested-Takes}
-use Rattle.c_grammar.proofs.Reading.{finish, word_is, bind_ok, gives_bind, chosen, choose, refuse_test, first_of_neither, second_of_neither, Sound, Complete, Ends, Starts}
-use Rattle.c_grammar.proofs.Chains.{chain-Sound, chain-Complete, chain-Starts}
+use Rattle.c_words.specs.Parsing.{Leaves, Outcome, and_then, pure, word_at, chain_at}
+use Rattle.c_words.proofs.Taking.{Takes-nothing, nothing-Takes, Takes-then, then-Takes, Takes-nested, nested-Takes}
+use Rattle.c_words.proofs.Reading.{finish, word_is, bind_ok, gives_bind, chosen, choose, refuse_test, first_of_neither, second_of_neither, Sound, Complete, Ends, Starts}
+use Rattle.c_words.proofs.Chains.{chain-Sound, chain-Complete, chain-Starts}
 use Rattle.c_type_names.specs.TypeReading as types
 use Rattle.c_type_names.specs.TypeReading.{stars_from, begins_type, goes_on_base, goes_on_type}
 use Rattle.c_type_names.proofs.TypeLaws.{consts-Sound, consts-Complete, base-Sound, base-Complete, base-Starts, star-word, stars_from-takes, stars-Sound, stars-Complete, stars_reach, before_append, goes_on_stars}

@@ -1,19 +1,19 @@
 -- The sizes of a parameter without name: the parser gives a tree exactly where one stands.
 use Rattle.std.proofs.Common.{◌≡◌, ℕ, zero, suc, ◌+◌, ◌-◌, ◌<◌, ◌≤◌, ltb, Bool, ◌&&◌, Some, refl, sym, ap, subst, ◌∙◌, ⊎_elim, arith}
 use Rattle.std.proofs.lemmas.Bool.{ltb-true, lt-ltb}
-use Rattle.c_grammar.specs.declared.word.Word.{Word}
-use Rattle.c_grammar.specs.declared.word.Word.TheVariants as w
-use Rattle.c_grammar.specs.declared.word.Leaf.{Leaf}
+use Rattle.c_words.specs.declared.word.Word.{Word}
+use Rattle.c_words.specs.declared.word.Word.TheVariants as w
+use Rattle.c_words.specs.declared.word.Leaf.{Leaf}
 use Rattle.c_grammar.specs.declared.expression.Choice.{Choice}
 use Rattle.c_grammar.specs.declared.declaration.Sizes.{Sizes}
 use Rattle.c_grammar.specs.declared.declaration.Sizes.TheVariants as z
-use Rattle.c_grammar.specs.Words.{same}
-use Rattle.c_grammar.specs.Written.{◌then◌, one, one_of, Takes}
+use Rattle.c_words.specs.Words.{same}
+use Rattle.c_words.specs.Written.{◌then◌, one, one_of, Takes}
 use Rattle.c_grammar.specs.Expressions.{choice}
 use Rattle.c_grammar.specs.Declarations.{array_of, sizes}
-use Rattle.c_grammar.specs.Parsing.{Leaves, and_then, word_at, after, take_if, expect}
-use Rattle.c_grammar.proofs.Taking.{Takes-then, then-Takes, Takes-nested, nested-Takes, both, second_of_both}
-use Rattle.c_grammar.proofs.Reading.{finish, after-one, word_is, bind_ok, gives_bind, chosen, choose, refuse_test, Sound, Complete, Ends, take_if-takes, take_if-gives, take_if-word}
+use Rattle.c_words.specs.Parsing.{Leaves, and_then, word_at, after, take_if, expect}
+use Rattle.c_words.proofs.Taking.{Takes-then, then-Takes, Takes-nested, nested-Takes, both, second_of_both}
+use Rattle.c_words.proofs.Reading.{finish, after-one, word_is, bind_ok, gives_bind, chosen, choose, refuse_test, Sound, Complete, Ends, take_if-takes, take_if-gives, take_if-word}
 use Rattle.c_expressions.specs.ExpressionReading.{inner_at}
 use Rattle.c_declarations.specs.DeclaratorReading.{goes_on_declarator}
 use Rattle.c_declarations.specs.ParameterReading as read

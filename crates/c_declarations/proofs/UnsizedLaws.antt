@@ -1,6 +1,6 @@
 -- Whether the `[ ]` right after the name of a declarator is empty, by its alternatives.
 use Rattle.std.proofs.Common.{◌≡◌, true, false, ap}
-use Rattle.c_grammar.specs.declared.word.Leaf.{Leaf}
+use Rattle.c_words.specs.declared.word.Leaf.{Leaf}
 use Rattle.c_grammar.specs.declared.expression.Choice.{Choice}
 use Rattle.c_grammar.specs.declared.declaration.Declarator.{Declarator}
 use Rattle.c_grammar.specs.declared.declaration.Direct.{Direct}

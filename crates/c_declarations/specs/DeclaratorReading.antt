@@ -1,15 +1,15 @@
 -- Reading of declarators. What nests is read by the parsers that are passed in.
 use Rattle.std.specs.Prelude.{ℕ, zero, suc, nat_lt, Bool, ◌&&◌, ◌||◌, if◌then◌else◌, List, [], ◌∷◌, ◌++◌}
-use Rattle.c_grammar.specs.declared.word.Word.{Word}
-use Rattle.c_grammar.specs.declared.word.Word.TheVariants as w
-use Rattle.c_grammar.specs.declared.word.Leaf.{Leaf}
+use Rattle.c_words.specs.declared.word.Word.{Word}
+use Rattle.c_words.specs.declared.word.Word.TheVariants as w
+use Rattle.c_words.specs.declared.word.Leaf.{Leaf}
 use Rattle.c_grammar.specs.declared.types.Star.{Star}
 use Rattle.c_grammar.specs.declared.expression.Choice.{Choice}
 use Rattle.c_grammar.specs.declared.declaration.Declarator.{Declarator}
 use Rattle.c_grammar.specs.declared.declaration.Direct.{Direct}
 use Rattle.c_grammar.specs.declared.declaration.Direct.TheVariants as d
-use Rattle.c_grammar.specs.Words.{same}
-use Rattle.c_grammar.specs.Parsing.{Parser, ◌>>=◌, pure, refuse, peek, peek_second, expect}
+use Rattle.c_words.specs.Words.{same}
+use Rattle.c_words.specs.Parsing.{Parser, ◌>>=◌, pure, refuse, peek, peek_second, expect}
 use Rattle.c_grammar.specs.Declarations as grammar
 use Rattle.c_type_names.specs.TypeReading.{star}
 use Rattle.c_expressions.specs.ExpressionReading.{inner_at, deep}

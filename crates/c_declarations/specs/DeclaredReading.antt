@@ -1,19 +1,19 @@
 -- Reading of initialisers and of what a declaration declares.
 use Rattle.std.specs.Prelude.{ℕ, zero, suc, Bool, true, false, ◌||◌, if◌then◌else◌, []}
-use Rattle.c_grammar.specs.declared.word.Word.{Word}
-use Rattle.c_grammar.specs.declared.word.Word.TheVariants as w
-use Rattle.c_grammar.specs.declared.chain.Chain.{Chain}
-use Rattle.c_grammar.specs.declared.operators.Operators.TheVariants as o
+use Rattle.c_words.specs.declared.word.Word.{Word}
+use Rattle.c_words.specs.declared.word.Word.TheVariants as w
+use Rattle.c_words.specs.declared.chain.Chain.{Chain}
+use Rattle.c_words.specs.declared.operators.Operators.TheVariants as o
 use Rattle.c_grammar.specs.declared.declaration.Declarator.{Declarator}
 use Rattle.c_grammar.specs.declared.declaration.Init.{Init}
 use Rattle.c_grammar.specs.declared.declaration.Init.TheVariants as i
 use Rattle.c_grammar.specs.declared.declaration.Declared.{Declared}
 use Rattle.c_grammar.specs.declared.declaration.Declared.TheVariants as e
-use Rattle.c_grammar.specs.Words.{same}
-use Rattle.c_grammar.specs.Expressions.{is_comma}
+use Rattle.c_words.specs.Words.{same}
+use Rattle.c_words.specs.OperatorWords.{is_comma}
 use Rattle.c_grammar.specs.Declarations.{is_unsized}
-use Rattle.c_grammar.specs.Operators.{continues}
-use Rattle.c_grammar.specs.Parsing.{Parser, ◌>>=◌, ◌<$>◌, pure, refuse, peek, expect, optional_at, chain_by, chain_at}
+use Rattle.c_words.specs.Operators.{continues}
+use Rattle.c_words.specs.Parsing.{Parser, ◌>>=◌, ◌<$>◌, pure, refuse, peek, expect, optional_at, chain_by, chain_at}
 use Rattle.c_expressions.specs.ExpressionReading.{inner_at, deep, goes_on_assign}
 use Rattle.c_declarations.specs.DeclaratorReading.{declarator_from}
 

@@ -1,11 +1,11 @@
 -- What it is for declared names and parameters to be read exactly, and for leaves to spell them in one way at most.
 use Rattle.std.specs.Prelude.{◌≡◌, ◌↔◌, ℕ, suc, true, List, [], ◌∷◌, Some}
-use Rattle.c_grammar.specs.declared.word.Word.TheVariants as w
-use Rattle.c_grammar.specs.declared.word.Leaf.{Leaf}
-use Rattle.c_grammar.specs.declared.chain.Chain.{Chain}
+use Rattle.c_words.specs.declared.word.Word.TheVariants as w
+use Rattle.c_words.specs.declared.word.Leaf.{Leaf}
+use Rattle.c_words.specs.declared.chain.Chain.{Chain}
 use Rattle.c_grammar.specs.declared.declaration.Declared.{Declared}
 use Rattle.c_grammar.specs.declared.declaration.Params.{Params}
-use Rattle.c_grammar.specs.Written.{Takes}
+use Rattle.c_words.specs.Written.{Takes}
 use Rattle.c_grammar.specs.Declarations as grammar
 use Rattle.c_declarations.specs.DeclaredReading as read
 use Rattle.c_declarations.specs.ParameterReading.{params}

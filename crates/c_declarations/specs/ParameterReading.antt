@@ -1,8 +1,8 @@
 -- Reading of parameters.
 use Rattle.std.specs.Prelude.{ℕ, zero, suc, ◌-◌, nat_lt, nat_eq, is_none, Bool, true, ◌&&◌, if◌then◌else◌, List, [], length, Option, Some, None}
-use Rattle.c_grammar.specs.declared.word.Word.TheVariants as w
-use Rattle.c_grammar.specs.declared.word.Leaf.{Leaf}
-use Rattle.c_grammar.specs.declared.chain.Chain.{Chain}
+use Rattle.c_words.specs.declared.word.Word.TheVariants as w
+use Rattle.c_words.specs.declared.word.Leaf.{Leaf}
+use Rattle.c_words.specs.declared.chain.Chain.{Chain}
 use Rattle.c_grammar.specs.declared.types.Base.{Base}
 use Rattle.c_grammar.specs.declared.types.Star.{Star}
 use Rattle.c_grammar.specs.declared.declaration.Sizes.{Sizes}
@@ -11,11 +11,11 @@ use Rattle.c_grammar.specs.declared.declaration.Parameter.{Parameter}
 use Rattle.c_grammar.specs.declared.declaration.Parameter.TheVariants as p
 use Rattle.c_grammar.specs.declared.declaration.Params.{Params}
 use Rattle.c_grammar.specs.declared.declaration.Params.TheVariants as ps
-use Rattle.c_grammar.specs.Words.{same}
-use Rattle.c_grammar.specs.Expressions.{is_comma}
+use Rattle.c_words.specs.Words.{same}
+use Rattle.c_words.specs.OperatorWords.{is_comma}
 use Rattle.c_grammar.specs.Declarations as grammar
 use Rattle.c_grammar.specs.Declarations.{lone_void}
-use Rattle.c_grammar.specs.Parsing.{Parser, ◌>>=◌, ◌<$>◌, pure, refuse, after, peek, peek_second, expect, chain_at}
+use Rattle.c_words.specs.Parsing.{Parser, ◌>>=◌, ◌<$>◌, pure, refuse, after, peek, peek_second, expect, chain_at}
 use Rattle.c_type_names.specs.TypeReading.{consts, base, stars_from}
 use Rattle.c_expressions.specs.ExpressionReading.{inner_at}
 use Rattle.c_declarations.specs.Brackets.{bracketed}

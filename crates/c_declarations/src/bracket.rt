@@ -1,23 +1,23 @@
 //! Sizes in brackets.
 
-ghost use Rattle.c_grammar.specs.Parsing.{Reads};
+ghost use Rattle.c_words.specs.Parsing.{Reads};
 ghost use Rattle.c_expressions.specs.ExpressionReading.{inner_at};
 ghost use Rattle.c_declarations.specs.Brackets as spec;
 ghost use Rattle.c_type_names.specs.Held.{ReadsAfter};
 
-use c_expressions::expression::choice;
-use c_grammar::cursor::Cursor;
-use c_grammar::expression::Choice;
-use c_grammar::fault::ParseFault;
-use c_grammar::word::{Leaf, Word};
+use c_expressions::expression::whole_conditional;
+use c_grammar::whole::Conditional;
 use c_type_names::held::then_expect;
+use c_words::cursor::Cursor;
+use c_words::fault::ParseFault;
+use c_words::word::{Leaf, Word};
 use std::alloc::Global;
 
 /// `[`, a size, `]`.
 #[derive(Drop)]
 pub struct Bracket {
     pub left: Leaf,
-    pub size: Choice,
+    pub size: Conditional,
     pub right: Leaf,
 }
 
@@ -31,7 +31,7 @@ pub fn bracketed(
     ensures { Reads (spec.bracketed (inner_at inside).choice tokens.old) result tokens.new }
 {
     let left = tokens.expect(Word::LeftBracket)?;
-    let size = choice(alloc, tokens, inside)?;
+    let size = whole_conditional(alloc, tokens, inside)?;
     let (size, right) = then_expect(size, tokens, Word::RightBracket)?;
     Ok(Bracket { left, size, right })
 }

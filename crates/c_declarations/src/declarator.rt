@@ -2,21 +2,21 @@
 
 ghost use Rattle.std.specs.Prelude.{◌≡◌, ◌<◌, []};
 ghost use Rattle.c_grammar.specs.Declarations as grammar;
-ghost use Rattle.c_grammar.specs.Parsing.{Reads};
+ghost use Rattle.c_words.specs.Parsing.{Reads};
 ghost use Rattle.c_expressions.specs.ExpressionReading.{inner_at};
 ghost use Rattle.c_declarations.specs.DeclaratorReading as spec;
 ghost use Rattle.c_type_names.specs.Held.{ReadsAfter};
 
 use crate::bracket::then_bracketed;
 use crate::deepest::deepest;
-use c_type_names::held::then_expect;
-use c_type_names::types::star;
-use c_grammar::cursor::{Cursor, same};
 use c_grammar::declaration::Declarator;
-use c_grammar::fault::ParseFault;
 use c_grammar::measured::{MeasuredDeclarator, MeasuredDirect};
 use c_grammar::types::Star;
-use c_grammar::word::{Leaf, Word};
+use c_type_names::held::then_expect;
+use c_type_names::types::star;
+use c_words::cursor::{Cursor, same};
+use c_words::fault::ParseFault;
+use c_words::word::{Leaf, Word};
 use sqlite_items::Items;
 use std::alloc::Global;
 
@@ -51,7 +51,7 @@ fn named(
 }
 
 /// A size in brackets after what was found, which may nest one deeper.
-#[tactic(auto, unfolding(crate::specs::DeclaratorReading::array))]
+#[tactic(auto, unfolding(crate::specs::DeclaratorReading::array), using(crate::proofs::BracketLaws::size_below))]
 fn array(
     alloc: Global,
     tokens: &mut Cursor<'_>,
@@ -63,7 +63,7 @@ fn array(
 {
     let before = found.nesting();
     let (found, bracket) = then_bracketed(found, alloc, tokens, inside)?;
-    let inner = deepest(before, &bracket.size, inside);
+    let inner = deepest(before, bracket.size.get(), inside);
     Ok(MeasuredDirect::array(
         alloc,
         found,

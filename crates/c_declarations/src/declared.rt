@@ -2,21 +2,21 @@
 
 ghost use Rattle.std.specs.Prelude.{◌≡◌, [], false};
 ghost use Rattle.c_grammar.specs.Declarations as grammar;
-ghost use Rattle.c_grammar.specs.Parsing.{Reads};
+ghost use Rattle.c_words.specs.Parsing.{Reads};
 ghost use Rattle.c_declarations.specs.DeclaratorReading.{declarator_from};
 ghost use Rattle.c_declarations.specs.DeclaredReading as spec;
 ghost use Rattle.c_type_names.specs.Held.{ReadsAfter};
 
 use crate::declarator::declarator;
 use crate::init::then_init;
-use c_grammar::chain::Chain;
-use c_grammar::cursor::{Cursor, same};
 use c_grammar::declaration::{Declarator, Declared, Direct};
-use c_grammar::fault::ParseFault;
-use c_grammar::operators::Operators;
-use c_grammar::word::Word;
 use c_type_names::chain::{Operand, chain};
 use c_type_names::held::{then_expect, unless_refused};
+use c_words::chain::Chain;
+use c_words::cursor::{Cursor, same};
+use c_words::fault::ParseFault;
+use c_words::operators::Operators;
+use c_words::word::Word;
 use sqlite_items::Items;
 use std::alloc::Global;
 

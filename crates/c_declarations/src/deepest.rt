@@ -1,6 +1,6 @@
 //! How deep the deepest of the parts of a declarator nests.
 
-ghost use Rattle.std.specs.Prelude.{◌≡◌, ◌<◌, ◌≤◌, max};
+ghost use Rattle.std.specs.Prelude.{◌≡◌, ◌-◌, ◌^◌, ◌<◌, ◌≤◌, max};
 ghost use Rattle.c_grammar.specs.Expressions.{choice};
 
 use c_grammar::expression::Choice;
@@ -27,9 +27,10 @@ fn nesting_between(size: &Choice, low: usize, high: usize) -> usize
 
 /// The greater of `before` and of how deep the size nests, which is below `limit`. A size that nests no deeper is looked at once.
 pub fn deepest(before: usize, size: &Choice, limit: usize) -> usize
-    requires before { before < limit }
+    requires before { before < 2 ^ 64 - 1 }
     requires size { (choice size.now).nesting < limit }
-    ensures { result ≡ max before (choice size.now).nesting }
+    ensures deepest { result ≡ max before (choice size.now).nesting }
+    ensures within { before < limit → result < limit }
 {
     if choice_fits(size, before + 1) {
         before

@@ -1,20 +1,20 @@
 //! Initialisers.
 
 ghost use Rattle.std.specs.Prelude.{◌≡◌};
-ghost use Rattle.c_grammar.specs.Follows.{Nests};
-ghost use Rattle.c_grammar.specs.Parsing.{Reads};
+ghost use Rattle.c_words.specs.Follows.{Nests};
+ghost use Rattle.c_words.specs.Parsing.{Reads};
 ghost use Rattle.c_type_names.specs.Held.{ReadsAfter};
 ghost use Rattle.c_declarations.specs.DeclaredReading as spec;
 
-use c_expressions::expression::assign;
-use c_grammar::chain::Chain;
-use c_grammar::cursor::{Cursor, same};
+use c_expressions::expression::whole_expression;
 use c_grammar::declaration::Init;
-use c_grammar::fault::ParseFault;
-use c_grammar::operators::Operators;
-use c_grammar::word::Word;
 use c_type_names::chain::{Operand, chain};
 use c_type_names::held::{then_expect, then_optional};
+use c_words::chain::Chain;
+use c_words::cursor::{Cursor, same};
+use c_words::fault::ParseFault;
+use c_words::operators::Operators;
+use c_words::word::Word;
 use sqlite_items::Boxed;
 use std::alloc::Global;
 
@@ -72,7 +72,7 @@ pub fn init(alloc: Global, tokens: &mut Cursor<'_>, depth: usize) -> Result<Init
         return Err(tokens.refuse());
     }
     if !same(Word::LeftBrace, tokens.peek()) {
-        return Ok(Init::Value(assign(alloc, tokens, depth)?));
+        return Ok(Init::Value(whole_expression(alloc, tokens, depth)?));
     }
     if depth == 1 {
         return Err(tokens.refuse());

@@ -4,8 +4,8 @@
 pub mod bracket;
 pub mod declarator;
 pub mod declared;
-pub mod exactness;
 mod deepest;
+pub mod exactness;
 pub mod init;
 pub mod parameter;
 pub mod sizes;

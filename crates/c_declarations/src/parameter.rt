@@ -2,24 +2,24 @@
 
 ghost use Rattle.std.specs.Prelude.{◌≡◌, [], None};
 ghost use Rattle.c_grammar.specs.Declarations as grammar;
-ghost use Rattle.c_grammar.specs.Parsing.{Reads, chain_at};
-ghost use Rattle.c_grammar.specs.Expressions.{is_comma};
+ghost use Rattle.c_words.specs.Parsing.{Reads, chain_at};
+ghost use Rattle.c_words.specs.OperatorWords.{is_comma};
 ghost use Rattle.c_declarations.specs.DeclaratorReading.{begins_direct as begins_direct_word};
 ghost use Rattle.c_type_names.specs.Held.{ReadsAfter};
 ghost use Rattle.c_declarations.specs.ParameterReading as spec;
 
 use crate::declarator::then_declarator;
 use crate::sizes::then_sizes;
-use c_grammar::chain::Chain;
-use c_grammar::cursor::{Cursor, same};
 use c_grammar::declaration::{Parameter, Params, Sizes};
-use c_grammar::fault::ParseFault;
-use c_grammar::operators::Operators;
 use c_grammar::types::{Base, Specifier, Star};
-use c_grammar::word::{Leaf, Word};
 use c_type_names::chain::{Operand, chain};
 use c_type_names::held::{instead, then_base, then_stars};
 use c_type_names::types::consts;
+use c_words::chain::Chain;
+use c_words::cursor::{Cursor, same};
+use c_words::fault::ParseFault;
+use c_words::operators::Operators;
+use c_words::word::{Leaf, Word};
 use sqlite_items::Items;
 use std::alloc::Global;
 

@@ -2,17 +2,17 @@
 
 ghost use Rattle.std.specs.Prelude.{◌≡◌, ◌<◌};
 ghost use Rattle.c_grammar.specs.Declarations as grammar;
-ghost use Rattle.c_grammar.specs.Parsing.{Reads};
+ghost use Rattle.c_words.specs.Parsing.{Reads};
 ghost use Rattle.c_type_names.specs.Held.{ReadsAfter};
 ghost use Rattle.c_declarations.specs.ParameterReading as spec;
 
 use crate::bracket::{bracketed, then_bracketed};
 use crate::deepest::deepest;
-use c_grammar::cursor::{Cursor, same};
 use c_grammar::declaration::Sizes;
-use c_grammar::fault::ParseFault;
 use c_grammar::measured::MeasuredSizes;
-use c_grammar::word::Word;
+use c_words::cursor::{Cursor, same};
+use c_words::fault::ParseFault;
+use c_words::word::Word;
 use std::alloc::Global;
 
 #[tactic(auto, unfolding(crate::specs::ParameterReading::empty_size))]
@@ -24,7 +24,7 @@ fn empty_size(tokens: &mut Cursor<'_>) -> Result<MeasuredSizes, ParseFault>
     Ok(MeasuredSizes::empty(open, close))
 }
 
-#[tactic(auto, unfolding(crate::specs::ParameterReading::some_size))]
+#[tactic(auto, unfolding(crate::specs::ParameterReading::some_size), using(crate::proofs::BracketLaws::size_below))]
 fn some_size(
     alloc: Global,
     tokens: &mut Cursor<'_>,
@@ -33,7 +33,7 @@ fn some_size(
     ensures { Reads (spec.some_size inside tokens.old) result tokens.new }
 {
     let bracket = bracketed(alloc, tokens, inside)?;
-    let inner = deepest(0, &bracket.size, inside);
+    let inner = deepest(0, bracket.size.get(), inside);
     Ok(MeasuredSizes::first(bracket.left, bracket.size, bracket.right, inner))
 }
 
@@ -54,7 +54,7 @@ fn first_size(
 }
 
 /// A size after those that were found, which may nest one deeper.
-#[tactic(auto, unfolding(crate::specs::ParameterReading::next_size))]
+#[tactic(auto, unfolding(crate::specs::ParameterReading::next_size), using(crate::proofs::BracketLaws::size_below))]
 fn next_size(
     alloc: Global,
     tokens: &mut Cursor<'_>,
@@ -66,7 +66,7 @@ fn next_size(
 {
     let before = found.nesting();
     let (found, bracket) = then_bracketed(found, alloc, tokens, inside)?;
-    let inner = deepest(before, &bracket.size, inside);
+    let inner = deepest(before, bracket.size.get(), inside);
     Ok(MeasuredSizes::next(
         alloc,
         found,

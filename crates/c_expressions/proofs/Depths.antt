@@ -1,6 +1,6 @@
 -- Where nothing may nest, and where something may.
 use Rattle.std.proofs.Common.{◌≡◌, ℕ, zero, suc, ◌<◌, None, refl, ap, ◌∙◌, arith}
-use Rattle.c_grammar.specs.Parsing.{Leaves, Parser}
+use Rattle.c_words.specs.Parsing.{Leaves, Parser}
 use Rattle.c_expressions.specs.ExpressionReading.{deep, inner_at}
 
 pub inner_depth : (n : ℕ) → (inner_at n).depth ≡ n

@@ -1,11 +1,11 @@
 -- Expressions are read exactly, and leaves spell one expression at most.
 use Rattle.std.proofs.Common.{◌≡◌, ℕ, suc, max, true, List, [], ◌++◌, Some, refl, sym, ◌∙◌, append-nil, arith}
-use Rattle.c_grammar.specs.declared.word.Leaf.{Leaf}
+use Rattle.c_words.specs.declared.word.Leaf.{Leaf}
 use Rattle.c_grammar.specs.declared.expression.Assign.{Assign}
-use Rattle.c_grammar.specs.Written.{Takes}
+use Rattle.c_words.specs.Written.{Takes}
 use Rattle.c_grammar.specs.Expressions.{assign}
-use Rattle.c_grammar.specs.Parsing.{word_at}
-use Rattle.c_grammar.proofs.Reading.{Ends, same_pair}
+use Rattle.c_words.specs.Parsing.{word_at}
+use Rattle.c_words.proofs.Reading.{Ends, same_pair}
 use Rattle.c_expressions.specs.ExpressionReading.{inner_at, goes_on_assign}
 use Rattle.c_expressions.specs.Exactness.{ReadsExpressions, HaveOneExpression}
 use Rattle.c_expressions.proofs.ExpressionLaws.{exact}

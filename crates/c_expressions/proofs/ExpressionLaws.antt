@@ -1,10 +1,10 @@
 -- Expressions: a parser gives a tree exactly where one stands.
 use Rattle.std.proofs.Common.{◌≡◌, ℕ, zero, suc, ◌<◌, Bool, true, false, not, ◌||◌, ◌&&◌, List, [], ◌∷◌, Option, Some, None, refl, sym, ap, ap₂, subst, ◌∙◌, ⊎_elim, arith}
-use Rattle.c_grammar.specs.declared.word.Word.{Word}
-use Rattle.c_grammar.specs.declared.word.Word.TheVariants as w
-use Rattle.c_grammar.specs.declared.word.Leaf.{Leaf}
-use Rattle.c_grammar.specs.declared.chain.Chain.{Chain}
-use Rattle.c_grammar.specs.declared.chain.Link.{Link}
+use Rattle.c_words.specs.declared.word.Word.{Word}
+use Rattle.c_words.specs.declared.word.Word.TheVariants as w
+use Rattle.c_words.specs.declared.word.Leaf.{Leaf}
+use Rattle.c_words.specs.declared.chain.Chain.{Chain}
+use Rattle.c_words.specs.declared.chain.Link.{Link}
 use Rattle.c_grammar.specs.declared.expression.Assign.{Assign}
 use Rattle.c_grammar.specs.declared.expression.Choice.{Choice}
 use Rattle.c_grammar.specs.declared.expression.Or.{Or}
@@ -15,17 +15,18 @@ use Rattle.c_grammar.specs.declared.expression.Postfix.{Postfix}
 use Rattle.c_grammar.specs.declared.expression.Suffix.{Suffix}
 use Rattle.c_grammar.specs.declared.expression.Primary.{Primary}
 use Rattle.c_grammar.specs.declared.expression.Primary.TheVariants as p
-use Rattle.c_grammar.specs.Words.{same}
-use Rattle.c_grammar.specs.Written.{Written, nothing, ◌then◌, one, one_of, nested, only, optional, run, links, chain, Takes}
+use Rattle.c_words.specs.Words.{same}
+use Rattle.c_words.specs.Written.{Written, nothing, ◌then◌, one, one_of, nested, only, optional, run, links, chain, Takes}
 use Rattle.c_grammar.specs.Types.{type_name}
-use Rattle.c_grammar.specs.Expressions.{is_comma, is_prefix_operator, is_assignment_operator, is_cast, assign, choice, or, unary, postfix, suffix, primary}
-use Rattle.c_grammar.specs.Operators.{is_binary_operator}
-use Rattle.c_grammar.specs.Parsing.{Leaves, Parser, word_at, after, take_if, expect, run_at, chain_at, next_is}
+use Rattle.c_words.specs.OperatorWords.{is_comma, is_prefix_operator, is_assignment_operator}
+use Rattle.c_grammar.specs.Expressions.{is_cast, assign, choice, or, unary, postfix, suffix, primary}
+use Rattle.c_words.specs.Operators.{is_binary_operator}
+use Rattle.c_words.specs.Parsing.{Leaves, Parser, word_at, after, take_if, expect, run_at, chain_at, next_is}
 use Rattle.c_grammar.proofs.ExpressionShapes.{assign-Choice, assign-Assign, choice-Or, choice-Choose, unary-Postfix, unary-Prefix, unary-Cast, unary-SizeOf, unary-SizeOfType, is_cast-Postfix, is_cast-Prefix, is_cast-Cast, is_cast-SizeOf, is_cast-SizeOfType, postfix-is, suffix-Index, suffix-Member, suffix-Arrow, suffix-Increment, suffix-Decrement, primary-Name, primary-Call, primary-Number, primary-Character, primary-Paren, assign_cases, choice_cases, unary_cases, postfix_cases, suffix_cases, primary_cases}
-use Rattle.c_grammar.proofs.Taking.{Takes-nothing, nothing-Takes, Takes-then, then-Takes, Takes-nested, nested-Takes}
-use Rattle.c_grammar.proofs.Reading.{bind_ok, gives_bind, chosen, choose, refuse_test, Sound, Complete, Ends, Starts, first_of_neither, second_of_neither, neither, take_if-takes, take_if-gives, take_if-word, finish, after-one, at_one, word_is}
-use Rattle.c_grammar.proofs.Chains.{chain-Sound, chain-Complete, chain-Starts}
-use Rattle.c_grammar.proofs.Runs.{run-Sound, run-Complete}
+use Rattle.c_words.proofs.Taking.{Takes-nothing, nothing-Takes, Takes-then, then-Takes, Takes-nested, nested-Takes}
+use Rattle.c_words.proofs.Reading.{bind_ok, gives_bind, chosen, choose, refuse_test, Sound, Complete, Ends, Starts, first_of_neither, second_of_neither, neither, take_if-takes, take_if-gives, take_if-word, finish, after-one, at_one, word_is}
+use Rattle.c_words.proofs.Chains.{chain-Sound, chain-Complete, chain-Starts}
+use Rattle.c_words.proofs.Runs.{run-Sound, run-Complete}
 use Rattle.c_type_names.specs.TypeReading as types
 use Rattle.c_type_names.specs.TypeReading.{begins_type, goes_on_type}
 use Rattle.c_grouping.specs.Grouping.{or_of}

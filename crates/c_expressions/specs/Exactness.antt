@@ -1,8 +1,8 @@
 -- What it is for expressions to be read exactly, and for leaves to spell one expression at most.
 use Rattle.std.specs.Prelude.{◌≡◌, ◌↔◌, ℕ, true, List, [], Some}
-use Rattle.c_grammar.specs.declared.word.Leaf.{Leaf}
+use Rattle.c_words.specs.declared.word.Leaf.{Leaf}
 use Rattle.c_grammar.specs.declared.expression.Assign.{Assign}
-use Rattle.c_grammar.specs.Written.{Takes}
+use Rattle.c_words.specs.Written.{Takes}
 use Rattle.c_grammar.specs.Expressions.{assign}
 use Rattle.c_expressions.specs.ExpressionReading.{inner_at}
 

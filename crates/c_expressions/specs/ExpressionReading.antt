@@ -1,10 +1,10 @@
 -- Reading of expressions. What nests is read by the parsers that are passed in.
 use Rattle.std.specs.Prelude.{ℕ, zero, suc, Bool, true, false, if◌then◌else◌, ◌&&◌, ◌||◌, List, [], ◌∷◌, Option, Some, None}
-use Rattle.c_grammar.specs.declared.word.Word.{Word}
-use Rattle.c_grammar.specs.declared.word.Word.TheVariants as w
-use Rattle.c_grammar.specs.declared.word.Leaf.{Leaf}
-use Rattle.c_grammar.specs.declared.chain.Chain.{Chain}
-use Rattle.c_grammar.specs.declared.chain.Link.{Link}
+use Rattle.c_words.specs.declared.word.Word.{Word}
+use Rattle.c_words.specs.declared.word.Word.TheVariants as w
+use Rattle.c_words.specs.declared.word.Leaf.{Leaf}
+use Rattle.c_words.specs.declared.chain.Chain.{Chain}
+use Rattle.c_words.specs.declared.chain.Link.{Link}
 use Rattle.c_grammar.specs.declared.expression.Assign.{Assign}
 use Rattle.c_grammar.specs.declared.expression.Assign.TheVariants as a
 use Rattle.c_grammar.specs.declared.expression.Choice.{Choice}
@@ -17,10 +17,10 @@ use Rattle.c_grammar.specs.declared.expression.Suffix.{Suffix}
 use Rattle.c_grammar.specs.declared.expression.Suffix.TheVariants as s
 use Rattle.c_grammar.specs.declared.expression.Primary.{Primary}
 use Rattle.c_grammar.specs.declared.expression.Primary.TheVariants as p
-use Rattle.c_grammar.specs.Words.{same}
-use Rattle.c_grammar.specs.Expressions.{is_comma, is_prefix_operator, is_assignment_operator}
-use Rattle.c_grammar.specs.Operators.{is_binary_operator}
-use Rattle.c_grammar.specs.Parsing.{Parser, ◌>>=◌, ◌<$>◌, pure, refuse, peek, peek_second, take_if, expect, run_at, chain_at}
+use Rattle.c_words.specs.Words.{same}
+use Rattle.c_words.specs.OperatorWords.{is_comma, is_prefix_operator, is_assignment_operator}
+use Rattle.c_words.specs.Operators.{is_binary_operator}
+use Rattle.c_words.specs.Parsing.{Parser, ◌>>=◌, ◌<$>◌, pure, refuse, peek, peek_second, take_if, expect, run_at, chain_at}
 use Rattle.c_type_names.specs.TypeReading.{begins_type, type_name}
 use Rattle.c_grouping.specs.Grouping.{or_of}
 

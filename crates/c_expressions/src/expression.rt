@@ -1,30 +1,31 @@
 //! Expressions. Each rule is a method that has the parsers of what nests as function values.
 
 ghost use Rattle.std.specs.Prelude.{◌≡◌, [], length};
-ghost use Rattle.c_grammar.specs.declared.word.Word.TheVariants as w;
-ghost use Rattle.c_grammar.specs.Words.{same as same_word};
+ghost use Rattle.c_words.specs.declared.word.Word.TheVariants as w;
+ghost use Rattle.c_words.specs.Words.{same as same_word};
 ghost use Rattle.std.specs.Result.{result_map_both};
-ghost use Rattle.c_grammar.specs.declared.operators.Operators.TheVariants as o;
-ghost use Rattle.c_grammar.specs.Operators.{has, continues};
-ghost use Rattle.c_grammar.specs.Parsing.{Reads, and_then, pure, links_from, run_at};
-ghost use Rattle.c_grammar.specs.Follows.{Nests};
+ghost use Rattle.c_words.specs.declared.operators.Operators.TheVariants as o;
+ghost use Rattle.c_words.specs.Operators.{has, continues};
+ghost use Rattle.c_words.specs.Parsing.{Reads, and_then, pure, links_from, run_at};
+ghost use Rattle.c_words.specs.Follows.{Nests};
 ghost use Rattle.c_type_names.specs.TypeReading as types;
 ghost use Rattle.c_grouping.specs.Grouping as grouping;
 ghost use Rattle.c_type_names.specs.Held.{ReadsAfter};
 ghost use Rattle.c_grammar.specs.declared.expression.Assign.TheVariants as a;
 ghost use Rattle.c_expressions.specs.ExpressionReading as spec;
 
-use c_grammar::chain::{Chain, Link};
-use c_grammar::cursor::{Cursor, same};
 use c_grammar::expression::{Assign, Choice, Or, Postfix, Primary, Suffix, Unary};
-use c_grammar::fault::ParseFault;
-use c_grammar::operators::Operators;
 use c_grammar::types::TypeName;
-use c_grammar::word::{Leaf, Word};
+use c_grammar::whole::{Conditional, Expression};
 use c_grouping::group::{Flat, boxed_or_of};
 use c_type_names::chain::{Operand, Part, chain, links, run};
 use c_type_names::held::{instead, then_expect, then_operator, unless_refused};
 use c_type_names::types::type_name;
+use c_words::chain::{Chain, Link};
+use c_words::cursor::{Cursor, same};
+use c_words::fault::ParseFault;
+use c_words::operators::Operators;
+use c_words::word::{Leaf, Word};
 use sqlite_items::{Boxed, Items};
 use std::alloc::Global;
 
@@ -442,7 +443,7 @@ impl<
     }
 
     /// Operands and the binary operators of all levels.
-    #[tactic(auto, unfolding(crate::specs::ExpressionReading::flat, c_grammar::specs::Parsing::chain_by))]
+    #[tactic(auto, unfolding(crate::specs::ExpressionReading::flat, c_words::specs::Parsing::chain_by))]
     fn flat(&self, tokens: &mut Cursor<'_>) -> Result<Flat, ParseFault>
         requires assign { Nests (spec.inner_at self.now.depth).assign self.now.depth (A.pre self.now.assign) (A.post self.now.assign) }
         requires unary { Nests (spec.inner_at self.now.depth).unary self.now.depth (U.pre self.now.unary) (U.post self.now.unary) }
@@ -722,4 +723,28 @@ fn unary(alloc: Global, tokens: &mut Cursor<'_>, depth: usize) -> Result<Unary, 
         unary,
     }
     .unary(tokens)
+}
+
+/// An expression that nests below the number, as other trees hold it.
+pub fn whole_expression(
+    alloc: Global,
+    tokens: &mut Cursor<'_>,
+    depth: usize,
+) -> Result<Expression, ParseFault>
+    ensures { Reads ((spec.inner_at depth).assign tokens.old) result tokens.new }
+{
+    let found = assign(alloc, tokens, depth)?;
+    Ok(Expression::new(alloc, found)?)
+}
+
+/// A conditional expression that nests below the number, as other trees hold it.
+pub fn whole_conditional(
+    alloc: Global,
+    tokens: &mut Cursor<'_>,
+    depth: usize,
+) -> Result<Conditional, ParseFault>
+    ensures { Reads ((spec.inner_at depth).choice tokens.old) result tokens.new }
+{
+    let found = choice(alloc, tokens, depth)?;
+    Ok(Conditional::new(alloc, found)?)
 }

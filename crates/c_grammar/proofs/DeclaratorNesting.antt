@@ -1,6 +1,6 @@
 -- How deep a declarator, or the sizes of a parameter, nests, by its parts.
 use Rattle.std.proofs.Common.{◌≡◌, ℕ, suc, ◌+◌, max, List, [], ◌∷◌, length, refl, ap, arith}
-use Rattle.c_grammar.specs.declared.word.Leaf.{Leaf}
+use Rattle.c_words.specs.declared.word.Leaf.{Leaf}
 use Rattle.c_grammar.specs.declared.types.Star.{Star}
 use Rattle.c_grammar.specs.declared.expression.Choice.{Choice}
 use Rattle.c_grammar.specs.declared.declaration.Declarator.{Declarator}
@@ -8,7 +8,7 @@ use Rattle.c_grammar.specs.declared.declaration.Direct.{Direct}
 use Rattle.c_grammar.specs.declared.declaration.Direct.TheVariants as d
 use Rattle.c_grammar.specs.declared.declaration.Sizes.{Sizes}
 use Rattle.c_grammar.specs.declared.declaration.Sizes.TheVariants as z
-use Rattle.c_grammar.specs.Written.{Written, nothing, ◌then◌, one_of, nested, run}
+use Rattle.c_words.specs.Written.{Written, nothing, ◌then◌, one_of, nested, run}
 use Rattle.c_grammar.specs.Types.{star, consts, stars_before}
 use Rattle.c_grammar.specs.Expressions.{choice}
 use Rattle.c_grammar.specs.Declarations.{array_of, direct, declarator, sizes}

@@ -1,8 +1,8 @@
 -- What each alternative of a declarator, an initialiser and a parameter's sizes writes, as one equation each, and cases on a tree.
 use Rattle.std.proofs.Common.{◌≡◌, true, false, Option, refl, sym, ap, subst, ◌∙◌}
-use Rattle.c_grammar.specs.declared.word.Word.TheVariants as w
-use Rattle.c_grammar.specs.declared.word.Leaf.{Leaf}
-use Rattle.c_grammar.specs.declared.chain.Chain.{Chain}
+use Rattle.c_words.specs.declared.word.Word.TheVariants as w
+use Rattle.c_words.specs.declared.word.Leaf.{Leaf}
+use Rattle.c_words.specs.declared.chain.Chain.{Chain}
 use Rattle.c_grammar.specs.declared.expression.Assign.{Assign}
 use Rattle.c_grammar.specs.declared.expression.Choice.{Choice}
 use Rattle.c_grammar.specs.declared.declaration.Direct.TheOpen.{Direct-F}
@@ -15,9 +15,10 @@ use Rattle.c_grammar.specs.declared.declaration.Init.TheVariants as i
 use Rattle.c_grammar.specs.declared.declaration.Sizes.{Sizes, fold-roll-Sizes, out-Sizes, roll-Sizes, roll-out-Sizes}
 use Rattle.c_grammar.specs.declared.declaration.Sizes.TheOpen.{Sizes-F}
 use Rattle.c_grammar.specs.declared.declaration.Sizes.TheVariants as z
-use Rattle.c_grammar.specs.Written.{◌then◌, one, nested, optional, chain}
+use Rattle.c_words.specs.Written.{◌then◌, one, nested, optional, chain}
 use Rattle.c_grammar.specs.Types.{stars_before}
-use Rattle.c_grammar.specs.Expressions.{is_comma, assign, choice}
+use Rattle.c_words.specs.OperatorWords.{is_comma}
+use Rattle.c_grammar.specs.Expressions.{assign, choice}
 use Rattle.c_grammar.specs.Declarations.{array_of, direct_step, declarator_step, direct_shape, declarator_shape, direct, declarator, is_unsized, init_step, init, sizes_step, sizes}
 use Rattle.c_grammar.proofs.ExpressionShapes.{chain-of}
 

@@ -1,10 +1,10 @@
 -- What each alternative of an expression writes, as one equation each, and cases on a tree.
 use Rattle.std.proofs.Common.{◌≡◌, ℕ, suc, Bool, true, false, not, List, [], ◌∷◌, ◌++◌, Option, Some, None, refl, sym, ap, ap₂, subst, map, ◌∙◌}
-use Rattle.c_grammar.specs.declared.word.Word.{Word}
-use Rattle.c_grammar.specs.declared.word.Word.TheVariants as w
-use Rattle.c_grammar.specs.declared.word.Leaf.{Leaf}
-use Rattle.c_grammar.specs.declared.chain.Chain.{Chain}
-use Rattle.c_grammar.specs.declared.chain.Link.{Link}
+use Rattle.c_words.specs.declared.word.Word.{Word}
+use Rattle.c_words.specs.declared.word.Word.TheVariants as w
+use Rattle.c_words.specs.declared.word.Leaf.{Leaf}
+use Rattle.c_words.specs.declared.chain.Chain.{Chain}
+use Rattle.c_words.specs.declared.chain.Link.{Link}
 use Rattle.c_grammar.specs.declared.types.TypeName.{TypeName}
 use Rattle.c_grammar.specs.declared.expression.Assign.TheOpen.{Assign-F, Choice-F, Primary-F, Suffix-F, Unary-F, And-F, BitAnd-F, BitOr-F, BitXor-F, Equal-F, Or-F, Postfix-F, Product-F, Relation-F, Shift-F, Sum-F}
 use Rattle.c_grammar.specs.declared.expression.Assign.{Assign, fold-Assign, fold-roll-Assign, out-Assign, roll-Assign, roll-out-Assign}
@@ -28,10 +28,11 @@ use Rattle.c_grammar.specs.declared.expression.Choice.TheVariants as c
 use Rattle.c_grammar.specs.declared.expression.Unary.TheVariants as u
 use Rattle.c_grammar.specs.declared.expression.Suffix.TheVariants as s
 use Rattle.c_grammar.specs.declared.expression.Primary.TheVariants as p
-use Rattle.c_grammar.specs.Words.{same}
-use Rattle.c_grammar.specs.Written.{Written, nothing, ◌then◌, one, one_of, nested, only, optional, run, links, chain}
+use Rattle.c_words.specs.Words.{same}
+use Rattle.c_words.specs.Written.{Written, nothing, ◌then◌, one, one_of, nested, only, optional, run, links, chain}
 use Rattle.c_grammar.specs.Types.{type_name}
-use Rattle.c_grammar.specs.Expressions.{is_comma, is_product_operator, is_sum_operator, is_shift_operator, is_relation_operator, is_equal_operator, is_prefix_operator, is_assignment_operator, assign_step, choice_step, primary_step, suffix_step, unary_step, and_step, bit_and_step, bit_or_step, bit_xor_step, equal_step, or_step, postfix_step, product_step, relation_step, shift_step, sum_step, assign, choice, primary, suffix, OperandShape, unary_shape, is_cast, unary, and, bit_and, bit_or, bit_xor, equal, or, postfix, product, relation, shift, sum}
+use Rattle.c_words.specs.OperatorWords.{is_comma, is_product_operator, is_sum_operator, is_shift_operator, is_relation_operator, is_equal_operator, is_prefix_operator, is_assignment_operator}
+use Rattle.c_grammar.specs.Expressions.{assign_step, choice_step, primary_step, suffix_step, unary_step, and_step, bit_and_step, bit_or_step, bit_xor_step, equal_step, or_step, postfix_step, product_step, relation_step, shift_step, sum_step, assign, choice, primary, suffix, OperandShape, unary_shape, is_cast, unary, and, bit_and, bit_or, bit_xor, equal, or, postfix, product, relation, shift, sum}
 
 -- parts that were replaced by what they write
 pub run-map : {A B : Type 0} (f : A → Written) (g : B → Written) (h : A → B) → ((a : A) → g (h a) ≡ f a) → (xs : List A) → run g (map h xs) ≡ run f xs

@@ -1,11 +1,3 @@
-pub mod Taking
-pub mod Reading
-pub mod Chains
-pub mod Runs
-pub mod Tags
 pub mod ExpressionShapes
-pub mod WordTables
-pub mod LeafLaws
-pub mod Turns
 pub mod DeclaratorShapes
 pub mod DeclaratorNesting

@@ -1,9 +1,9 @@
 -- The grammar of declarators (C11 6.7.6), initialisers (6.7.9) and parameters: what each tree writes.
 use Rattle.std.specs.Prelude.{ℕ, Bool, true, false, not, is_none, List, [], ◌∷◌, Option, Some, None}
-use Rattle.c_grammar.specs.declared.word.Word.TheVariants as w
-use Rattle.c_grammar.specs.declared.word.Leaf.{Leaf}
-use Rattle.c_grammar.specs.declared.chain.Chain.{Chain}
-use Rattle.c_grammar.specs.declared.chain.Link.{Link}
+use Rattle.c_words.specs.declared.word.Word.TheVariants as w
+use Rattle.c_words.specs.declared.word.Leaf.{Leaf}
+use Rattle.c_words.specs.declared.chain.Chain.{Chain}
+use Rattle.c_words.specs.declared.chain.Link.{Link}
 use Rattle.c_grammar.specs.declared.types.Specifier.{Specifier}
 use Rattle.c_grammar.specs.declared.types.Specifier.TheVariants as s
 use Rattle.c_grammar.specs.declared.types.Base.{Base}
@@ -21,9 +21,10 @@ use Rattle.c_grammar.specs.declared.declaration.Parameter.{Parameter}
 use Rattle.c_grammar.specs.declared.declaration.Parameter.TheVariants as p
 use Rattle.c_grammar.specs.declared.declaration.Params.{Params}
 use Rattle.c_grammar.specs.declared.declaration.Params.TheVariants as ps
-use Rattle.c_grammar.specs.Written.{Written, nothing, ◌then◌, one, nested, only, optional, run, chain}
+use Rattle.c_words.specs.Written.{Written, nothing, ◌then◌, one, nested, only, optional, run, chain}
 use Rattle.c_grammar.specs.Types.{base, consts, stars_alone, stars_before}
-use Rattle.c_grammar.specs.Expressions.{is_comma, assign, choice}
+use Rattle.c_words.specs.OperatorWords.{is_comma}
+use Rattle.c_grammar.specs.Expressions.{assign, choice}
 
 -- ---- declarators
 

@@ -1,10 +1,5 @@
-pub mod Words
-pub mod Written
 pub mod Types
 pub mod Expressions
 pub mod Declarations
 pub mod Statements
 pub mod Programs
-pub mod Parsing
-pub mod Operators
-pub mod Follows

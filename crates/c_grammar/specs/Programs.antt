@@ -2,11 +2,11 @@
 use Rattle.std.specs.Prelude.{◌≡◌, ℕ, ◌≤◌, Bool, true, false, not, ◌||◌, ◌&&◌, List, [], ◌∷◌, Option, Some, None}
 use Rattle.std.specs.List.{list_all}
 use Rattle.c_lexer.specs.declared.token.Token.{Token}
-use Rattle.c_grammar.specs.declared.word.Mode.{Mode}
-use Rattle.c_grammar.specs.declared.word.Mode.TheVariants as mode
-use Rattle.c_grammar.specs.declared.word.Word.{Word}
-use Rattle.c_grammar.specs.declared.word.Word.TheVariants as w
-use Rattle.c_grammar.specs.declared.word.Leaf.{Leaf}
+use Rattle.c_words.specs.declared.word.Mode.{Mode}
+use Rattle.c_words.specs.declared.word.Mode.TheVariants as mode
+use Rattle.c_words.specs.declared.word.Word.{Word}
+use Rattle.c_words.specs.declared.word.Word.TheVariants as w
+use Rattle.c_words.specs.declared.word.Leaf.{Leaf}
 use Rattle.c_grammar.specs.declared.declaration.Parameter.{Parameter}
 use Rattle.c_grammar.specs.declared.declaration.Parameter.TheVariants as p
 use Rattle.c_grammar.specs.declared.declaration.Params.{Params}
@@ -17,10 +17,10 @@ use Rattle.c_grammar.specs.declared.program.Body.TheVariants as b
 use Rattle.c_grammar.specs.declared.program.Item.{Item}
 use Rattle.c_grammar.specs.declared.program.Item.TheVariants as i
 use Rattle.c_grammar.specs.declared.program.ProgramTree.{ProgramTree}
-use Rattle.c_grammar.specs.Words.{same, leaves_of}
-use Rattle.c_grammar.specs.Written.{Written, nothing, ◌then◌, one, one_of, nested, only, optional, run, chain}
+use Rattle.c_words.specs.Words.{same, leaves_of}
+use Rattle.c_words.specs.Written.{Written, nothing, ◌then◌, one, one_of, nested, only, optional, run, chain}
 use Rattle.c_grammar.specs.Types.{base, consts, stars_alone}
-use Rattle.c_grammar.specs.Expressions.{is_comma}
+use Rattle.c_words.specs.OperatorWords.{is_comma}
 use Rattle.c_grammar.specs.Declarations.{sized, all_declared, params}
 use Rattle.c_grammar.specs.Statements.{block}
 

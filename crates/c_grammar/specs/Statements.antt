@@ -1,8 +1,8 @@
 -- The grammar of statements (C11 6.8): what each tree writes.
 use Rattle.std.specs.Prelude.{ℕ, Bool, true, false, not, List, [], ◌∷◌, Option, Some, None}
-use Rattle.c_grammar.specs.declared.word.Word.{Word}
-use Rattle.c_grammar.specs.declared.word.Word.TheVariants as w
-use Rattle.c_grammar.specs.declared.word.Leaf.{Leaf}
+use Rattle.c_words.specs.declared.word.Word.{Word}
+use Rattle.c_words.specs.declared.word.Word.TheVariants as w
+use Rattle.c_words.specs.declared.word.Leaf.{Leaf}
 use Rattle.c_grammar.specs.declared.statement.Local.{Local}
 use Rattle.c_grammar.specs.declared.statement.Local.TheVariants as l
 use Rattle.c_grammar.specs.declared.statement.ForFirst.{ForFirst}
@@ -11,7 +11,7 @@ use Rattle.c_grammar.specs.declared.statement.Stmt.{Stmt, fold-Stmt}
 use Rattle.c_grammar.specs.declared.statement.BlockPart.TheOpen.{Block-F, BlockPart-F, Stmt-F}
 use Rattle.c_grammar.specs.declared.statement.Block.{Block, fold-Block}
 use Rattle.c_grammar.specs.declared.statement.BlockPart.{BlockPart, fold-BlockPart}
-use Rattle.c_grammar.specs.Written.{Written, nothing, ◌then◌, one, nested, only, optional, run}
+use Rattle.c_words.specs.Written.{Written, nothing, ◌then◌, one, nested, only, optional, run}
 use Rattle.c_grammar.specs.Types.{base, consts}
 use Rattle.c_grammar.specs.Expressions.{assign}
 use Rattle.c_grammar.specs.Declarations.{all_declared}

@@ -1,8 +1,8 @@
 -- The grammar of types: the integer types (C11 6.7.2), what a declaration begins with, pointers (6.7.6.1) and the names of types (6.7.7).
 use Rattle.std.specs.Prelude.{ℕ, Bool, List, [], ◌∷◌, Option, Some, None}
-use Rattle.c_grammar.specs.declared.word.Word.{Word}
-use Rattle.c_grammar.specs.declared.word.Word.TheVariants as w
-use Rattle.c_grammar.specs.declared.word.Leaf.{Leaf}
+use Rattle.c_words.specs.declared.word.Word.{Word}
+use Rattle.c_words.specs.declared.word.Word.TheVariants as w
+use Rattle.c_words.specs.declared.word.Leaf.{Leaf}
 use Rattle.c_grammar.specs.declared.types.Integer.{Integer}
 use Rattle.c_grammar.specs.declared.types.Integer.TheVariants as i
 use Rattle.c_grammar.specs.declared.types.Specifier.{Specifier}
@@ -10,7 +10,7 @@ use Rattle.c_grammar.specs.declared.types.Specifier.TheVariants as s
 use Rattle.c_grammar.specs.declared.types.Base.{Base}
 use Rattle.c_grammar.specs.declared.types.Star.{Star}
 use Rattle.c_grammar.specs.declared.types.TypeName.{TypeName}
-use Rattle.c_grammar.specs.Written.{Written, nothing, ◌then◌, one, nested, optional, run}
+use Rattle.c_words.specs.Written.{Written, nothing, ◌then◌, one, nested, optional, run}
 
 unfoldable pub integer : Integer → Written
 integer (i.Char t) = one w.Char t

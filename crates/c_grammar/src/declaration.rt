@@ -1,9 +1,9 @@
 //! Declarators, initialisers and parameters (C11 6.7.6, 6.7.9).
 
-use crate::chain::Chain;
-use crate::expression::{Assign, Choice};
 use crate::types::{Base, Star};
-use crate::word::Leaf;
+use crate::whole::{Conditional, Expression};
+use c_words::chain::Chain;
+use c_words::word::Leaf;
 use sqlite_items::{Boxed, Items};
 
 #[cycle(declarator)]
@@ -21,12 +21,12 @@ pub enum Direct {
     Unsized(Leaf, Leaf, Leaf),
     Paren(Leaf, Boxed<Declarator>, Leaf),
     /// `[`, a size, `]` after a declarator.
-    Array(Boxed<Direct>, Leaf, Choice, Leaf),
+    Array(Boxed<Direct>, Leaf, Conditional, Leaf),
 }
 
 #[derive(Drop)]
 pub enum Init {
-    Value(Assign),
+    Value(Expression),
     /// `{`, the elements, a last comma, `}`.
     Braces(Leaf, Boxed<Chain<Init>>, Option<Leaf>, Leaf),
 }
@@ -50,8 +50,8 @@ impl Drop for Declared {
 #[derive(Drop)]
 pub enum Sizes {
     Unsized(Leaf, Leaf),
-    First(Leaf, Choice, Leaf),
-    More(Boxed<Sizes>, Leaf, Choice, Leaf),
+    First(Leaf, Conditional, Leaf),
+    More(Boxed<Sizes>, Leaf, Conditional, Leaf),
 }
 
 pub enum Parameter {

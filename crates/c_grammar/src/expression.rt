@@ -1,8 +1,8 @@
 //! Expressions (C11 6.5). A level of binary operators is a chain of the next level.
 
-use crate::chain::Chain;
 use crate::types::TypeName;
-use crate::word::Leaf;
+use c_words::chain::Chain;
+use c_words::word::Leaf;
 use sqlite_items::{Boxed, Items};
 
 pub type Expr = Assign;

@@ -7,9 +7,9 @@ ghost use Rattle.c_grammar.specs.declared.declaration.Direct.TheVariants as d;
 ghost use Rattle.c_grammar.specs.declared.declaration.Sizes.TheVariants as z;
 
 use crate::declaration::{Declarator, Direct, Sizes};
-use crate::expression::Choice;
 use crate::types::Star;
-use crate::word::Leaf;
+use crate::whole::Conditional;
+use c_words::word::Leaf;
 use sqlite_items::{Boxed, Items};
 use std::alloc::{AllocError, Global};
 use std::marker::Model;
@@ -93,7 +93,7 @@ impl MeasuredDirect {
         alloc: Global,
         before: MeasuredDirect,
         left: Leaf,
-        size: Choice,
+        size: Conditional,
         right: Leaf,
         inner: usize,
     ) -> Result<MeasuredDirect, AllocError>
@@ -217,7 +217,7 @@ impl MeasuredSizes {
 
     /// `[`, a size that nests as deep as `inner` says, and `]`.
     #[tactic(auto, using(crate::proofs::DeclaratorNesting::first_size_nesting))]
-    pub fn first(left: Leaf, size: Choice, right: Leaf, inner: usize) -> MeasuredSizes
+    pub fn first(left: Leaf, size: Conditional, right: Leaf, inner: usize) -> MeasuredSizes
         requires inner { inner ≡ (choice size).nesting }
         requires room { inner < 2 ^ 64 - 1 }
         ensures { result ≡ z.First left size right }
@@ -234,7 +234,7 @@ impl MeasuredSizes {
         alloc: Global,
         before: MeasuredSizes,
         left: Leaf,
-        size: Choice,
+        size: Conditional,
         right: Leaf,
         inner: usize,
     ) -> Result<MeasuredSizes, AllocError>

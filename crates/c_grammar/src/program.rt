@@ -1,10 +1,10 @@
 //! Programs (C11 6.9).
 
-use crate::chain::Chain;
 use crate::declaration::{Declarator, Declared, Params};
 use crate::statement::Block;
 use crate::types::{Base, Star};
-use crate::word::Leaf;
+use c_words::chain::Chain;
+use c_words::word::Leaf;
 use sqlite_items::Items;
 
 /// Each `const`, the base, the declarators, `;`.

@@ -1,10 +1,10 @@
 //! Statements (C11 6.8) and the declarations among them.
 
-use crate::chain::Chain;
 use crate::declaration::Declared;
-use crate::expression::Assign;
 use crate::types::Base;
-use crate::word::Leaf;
+use crate::whole::Expression;
+use c_words::chain::Chain;
+use c_words::word::Leaf;
 use sqlite_items::{Boxed, Items};
 
 /// A declaration in a function.
@@ -27,7 +27,7 @@ impl Drop for Local {
 /// What stands before the first `;` of a `for`, with the `;`.
 pub enum ForFirst {
     Local(Local),
-    Expression(Option<Assign>, Leaf),
+    Expression(Option<Expression>, Leaf),
 }
 
 impl Drop for ForFirst {
@@ -43,21 +43,21 @@ impl Drop for ForFirst {
 #[derive(Drop)]
 pub enum Stmt {
     Empty(Leaf),
-    Expression(Assign, Leaf),
+    Expression(Expression, Leaf),
     Block(Boxed<Block>),
     /// `if`, `(`, the condition, `)`, the statement.
-    If(Leaf, Leaf, Assign, Leaf, Boxed<Stmt>),
+    If(Leaf, Leaf, Expression, Leaf, Boxed<Stmt>),
     /// The same, and `else` and its statement.
-    IfElse(Leaf, Leaf, Assign, Leaf, Boxed<Stmt>, Leaf, Boxed<Stmt>),
+    IfElse(Leaf, Leaf, Expression, Leaf, Boxed<Stmt>, Leaf, Boxed<Stmt>),
     /// `while`, `(`, the condition, `)`, the statement.
-    While(Leaf, Leaf, Assign, Leaf, Boxed<Stmt>),
+    While(Leaf, Leaf, Expression, Leaf, Boxed<Stmt>),
     /// `do`, the statement, `while`, `(`, the condition, `)`, `;`.
-    Do(Leaf, Boxed<Stmt>, Leaf, Leaf, Assign, Leaf, Leaf),
+    Do(Leaf, Boxed<Stmt>, Leaf, Leaf, Expression, Leaf, Leaf),
     /// `for`, `(`, the first part, the condition, `;`, the step, `)`, the statement.
-    For(Leaf, Leaf, ForFirst, Option<Assign>, Leaf, Option<Assign>, Leaf, Boxed<Stmt>),
+    For(Leaf, Leaf, ForFirst, Option<Expression>, Leaf, Option<Expression>, Leaf, Boxed<Stmt>),
     Break(Leaf, Leaf),
     Continue(Leaf, Leaf),
-    Return(Leaf, Option<Assign>, Leaf),
+    Return(Leaf, Option<Expression>, Leaf),
     /// A ghost annotation of a woven text.
     Ghost(Leaf),
     /// An assertion of a woven text.

@@ -1,6 +1,6 @@
 //! Names of types (C11 6.7.2, 6.7.7).
 
-use crate::word::Leaf;
+use c_words::word::Leaf;
 use sqlite_items::Items;
 
 /// The spellings of the integer types. `int` may be left out where a variant has it as an option, and so may `signed`.

@@ -1,10 +1,10 @@
 -- Grouping: a flat list of operands writes what its tree writes, and each tree is that of a flat list.
 use Rattle.std.proofs.Common.{◌≡◌, ℕ, max, Bool, true, false, ◌||◌, ◌&&◌, cond, List, [], ◌∷◌, ◌++◌, Option, Some, None, refl, sym, ap, ap₂, ◌∙◌, append_assoc, append-nil, arith}
-use Rattle.c_grammar.specs.declared.word.Word.{Word}
-use Rattle.c_grammar.specs.declared.word.Word.TheVariants as w
-use Rattle.c_grammar.specs.declared.word.Leaf.{Leaf}
-use Rattle.c_grammar.specs.declared.chain.Chain.{Chain}
-use Rattle.c_grammar.specs.declared.chain.Link.{Link}
+use Rattle.c_words.specs.declared.word.Word.{Word}
+use Rattle.c_words.specs.declared.word.Word.TheVariants as w
+use Rattle.c_words.specs.declared.word.Leaf.{Leaf}
+use Rattle.c_words.specs.declared.chain.Chain.{Chain}
+use Rattle.c_words.specs.declared.chain.Link.{Link}
 use Rattle.c_grammar.specs.declared.expression.Or.{Or, roll-Or}
 use Rattle.c_grammar.specs.declared.expression.And.{And, roll-And}
 use Rattle.c_grammar.specs.declared.expression.BitOr.{BitOr, roll-BitOr}
@@ -16,11 +16,12 @@ use Rattle.c_grammar.specs.declared.expression.Shift.{Shift, roll-Shift}
 use Rattle.c_grammar.specs.declared.expression.Sum.{Sum, roll-Sum}
 use Rattle.c_grammar.specs.declared.expression.Product.{Product}
 use Rattle.c_grammar.specs.declared.expression.Unary.{Unary}
-use Rattle.c_grammar.specs.Words.{same}
-use Rattle.c_grammar.specs.Written.{Written, nothing, ◌then◌, one_of, links, chain}
-use Rattle.c_grammar.specs.Expressions.{is_product_operator, is_sum_operator, is_shift_operator, is_relation_operator, is_equal_operator, or, and, bit_or, bit_xor, bit_and, equal, relation, shift, sum, product, unary}
-use Rattle.c_grammar.specs.Operators.{is_binary_operator}
-use Rattle.c_grammar.proofs.Taking.{first_of_both, second_of_both}
+use Rattle.c_words.specs.Words.{same}
+use Rattle.c_words.specs.Written.{Written, nothing, ◌then◌, one_of, links, chain}
+use Rattle.c_words.specs.OperatorWords.{is_product_operator, is_sum_operator, is_shift_operator, is_relation_operator, is_equal_operator}
+use Rattle.c_grammar.specs.Expressions.{or, and, bit_or, bit_xor, bit_and, equal, relation, shift, sum, product, unary}
+use Rattle.c_words.specs.Operators.{is_binary_operator}
+use Rattle.c_words.proofs.Taking.{first_of_both, second_of_both}
 use Rattle.c_grammar.proofs.ExpressionShapes.{or-is, and-is, bit_or-is, bit_xor-is, bit_and-is, equal-is, relation-is, shift-is, sum-is, product-is, or_cases, and_cases, bit_or_cases, bit_xor_cases, bit_and_cases, equal_cases, relation_cases, shift_cases, sum_cases, product_cases}
 use Rattle.c_grouping.specs.Grouping.{close, group_from, group, or_of, and_of, bit_or_of, bit_xor_of, bit_and_of, equal_of, relation_of, shift_of, sum_of, product_of}
 

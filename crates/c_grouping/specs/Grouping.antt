@@ -1,10 +1,10 @@
 -- A flat list of operands, with the operators of all ten levels between them, grouped by the levels (C11 6.5).
 use Rattle.std.specs.Prelude.{Bool, if◌then◌else◌, List, [], ◌∷◌, ◌++◌, Option, Some, None}
-use Rattle.c_grammar.specs.declared.word.Word.{Word}
-use Rattle.c_grammar.specs.declared.word.Word.TheVariants as w
-use Rattle.c_grammar.specs.declared.word.Leaf.{Leaf}
-use Rattle.c_grammar.specs.declared.chain.Chain.{Chain}
-use Rattle.c_grammar.specs.declared.chain.Link.{Link}
+use Rattle.c_words.specs.declared.word.Word.{Word}
+use Rattle.c_words.specs.declared.word.Word.TheVariants as w
+use Rattle.c_words.specs.declared.word.Leaf.{Leaf}
+use Rattle.c_words.specs.declared.chain.Chain.{Chain}
+use Rattle.c_words.specs.declared.chain.Link.{Link}
 use Rattle.c_grammar.specs.declared.expression.Or.{Or, roll-Or}
 use Rattle.c_grammar.specs.declared.expression.And.{And, roll-And}
 use Rattle.c_grammar.specs.declared.expression.BitOr.{BitOr, roll-BitOr}
@@ -16,8 +16,8 @@ use Rattle.c_grammar.specs.declared.expression.Shift.{Shift, roll-Shift}
 use Rattle.c_grammar.specs.declared.expression.Sum.{Sum, roll-Sum}
 use Rattle.c_grammar.specs.declared.expression.Product.{Product, roll-Product}
 use Rattle.c_grammar.specs.declared.expression.Unary.{Unary}
-use Rattle.c_grammar.specs.Words.{same}
-use Rattle.c_grammar.specs.Expressions.{is_sum_operator, is_shift_operator, is_relation_operator, is_equal_operator}
+use Rattle.c_words.specs.Words.{same}
+use Rattle.c_words.specs.OperatorWords.{is_sum_operator, is_shift_operator, is_relation_operator, is_equal_operator}
 
 -- the runs that are closed, with the operator after them, and one more
 abbrev pub close : {B : Type 0} → Option (Chain B × Leaf) → B → Chain B

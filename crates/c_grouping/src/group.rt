@@ -1,17 +1,17 @@
 //! A flat list of operands, grouped by the levels of the operators between them.
 
 ghost use Rattle.std.specs.Prelude.{◌≡◌, [], ◌∷◌, ◌++◌, IfOk, OnOk};
-ghost use Rattle.c_grammar.specs.declared.chain.Chain.{Chain as ChainValue};
+ghost use Rattle.c_words.specs.declared.chain.Chain.{Chain as ChainValue};
 ghost use Rattle.c_grammar.specs.declared.expression.Unary.{Unary as UnaryValue};
-ghost use Rattle.c_grammar.specs.Operators.{has};
+ghost use Rattle.c_words.specs.Operators.{has};
 ghost use Rattle.c_grouping.specs.Grouping as spec;
 
-use c_grammar::chain::{Chain, Link, push};
 use c_grammar::expression::{
     And, BitAnd, BitOr, BitXor, Equal, Or, Product, Relation, Shift, Sum, Unary,
 };
-use c_grammar::operators::Operators;
-use c_grammar::word::Leaf;
+use c_words::chain::{Chain, Link, push};
+use c_words::operators::Operators;
+use c_words::word::Leaf;
 use sqlite_items::{Boxed, Items};
 use std::alloc::{AllocError, Global};
 use std::marker::Model;
@@ -24,7 +24,7 @@ pub struct Flat {
 }
 
 impl Model for Flat {
-    ghost use Rattle.c_grammar.specs.declared.chain.Chain.{Chain};
+    ghost use Rattle.c_words.specs.declared.chain.Chain.{Chain};
     ghost use Rattle.c_grammar.specs.declared.expression.Unary.{Unary};
     ghost use Rattle.c_grammar.specs.contracts.expression.Unary as unary;
     ghost use Rattle.std.specs.Coded.{codes};

@@ -1,11 +1,11 @@
 -- Whether an expression nests below a limit, by its parts.
 use Rattle.std.proofs.Common.{◌≡◌, ℕ, suc, ◌-◌, ◌<◌, max, nat_lt, nat_le, Bool, true, false, ◌&&◌, List, [], ◌∷◌, length, Option, Some, None, refl, sym, ap, ◌∙◌, arith}
 use Rattle.std.proofs.lemmas.Bool.Decides.{nat_tests}
-use Rattle.c_grammar.specs.declared.word.Word.{Word}
-use Rattle.c_grammar.specs.declared.word.Word.TheVariants as w
-use Rattle.c_grammar.specs.declared.word.Leaf.{Leaf}
-use Rattle.c_grammar.specs.declared.chain.Chain.{Chain}
-use Rattle.c_grammar.specs.declared.chain.Link.{Link}
+use Rattle.c_words.specs.declared.word.Word.{Word}
+use Rattle.c_words.specs.declared.word.Word.TheVariants as w
+use Rattle.c_words.specs.declared.word.Leaf.{Leaf}
+use Rattle.c_words.specs.declared.chain.Chain.{Chain}
+use Rattle.c_words.specs.declared.chain.Link.{Link}
 use Rattle.c_grammar.specs.declared.types.Base.{Base}
 use Rattle.c_grammar.specs.declared.types.Star.{Star}
 use Rattle.c_grammar.specs.declared.types.TypeName.{TypeName}
@@ -32,10 +32,11 @@ use Rattle.c_grammar.specs.declared.expression.Unary.TheVariants as u
 use Rattle.c_grammar.specs.declared.expression.Postfix.{Postfix, out-Postfix, roll-out-Postfix}
 use Rattle.c_grammar.specs.declared.expression.Suffix.TheVariants as s
 use Rattle.c_grammar.specs.declared.expression.Primary.TheVariants as p
-use Rattle.c_grammar.specs.Words.{same}
-use Rattle.c_grammar.specs.Written.{Written, nothing, ◌then◌, one_of, nested, only, optional, run, links, chain}
+use Rattle.c_words.specs.Words.{same}
+use Rattle.c_words.specs.Written.{Written, nothing, ◌then◌, one_of, nested, only, optional, run, links, chain}
 use Rattle.c_grammar.specs.Types.{integer, specifier, base, star, stars_alone, type_name, consts}
-use Rattle.c_grammar.specs.Expressions.{is_comma, is_product_operator, is_sum_operator, is_shift_operator, is_relation_operator, is_equal_operator, assign, choice, or, and, bit_or, bit_xor, bit_and, equal, relation, shift, sum, product, unary, postfix, suffix, primary}
+use Rattle.c_words.specs.OperatorWords.{is_comma, is_product_operator, is_sum_operator, is_shift_operator, is_relation_operator, is_equal_operator}
+use Rattle.c_grammar.specs.Expressions.{assign, choice, or, and, bit_or, bit_xor, bit_and, equal, relation, shift, sum, product, unary, postfix, suffix, primary}
 use Rattle.c_nesting.specs.Measuring.{arguments}
 use Rattle.c_grammar.proofs.ExpressionShapes.{assign-Choice, assign-Assign, choice-Or, choice-Choose, unary-Postfix, unary-Prefix, unary-Cast, unary-SizeOf, unary-SizeOfType, postfix-is, suffix-Index, suffix-Member, suffix-Arrow, suffix-Increment, suffix-Decrement, primary-Name, primary-Call, primary-Number, primary-Character, primary-Paren, product-is, sum-is, shift-is, relation-is, equal-is, bit_and-is, bit_xor-is, bit_or-is, and-is, or-is}
 

@@ -1,10 +1,11 @@
 -- How deep trees nest.
 use Rattle.std.specs.Prelude.{◌≡◌, ℕ, Bool, nat_lt, Option}
 use denote.Ref.{Bor}
-use Rattle.c_grammar.specs.declared.chain.Chain.{Chain}
+use Rattle.c_words.specs.declared.chain.Chain.{Chain}
 use Rattle.c_grammar.specs.declared.expression.Assign.{Assign}
-use Rattle.c_grammar.specs.Written.{Written, nested, optional, chain}
-use Rattle.c_grammar.specs.Expressions.{is_comma, assign}
+use Rattle.c_words.specs.Written.{Written, nested, optional, chain}
+use Rattle.c_words.specs.OperatorWords.{is_comma}
+use Rattle.c_grammar.specs.Expressions.{assign}
 
 -- what stands in the parentheses of a call
 unfoldable pub arguments : Option (Chain Assign) → Written

@@ -1,18 +1,19 @@
 //! Whether an expression nests below a limit.
 
 ghost use Rattle.std.specs.Prelude.{◌≡◌, ◌<◌, ℕ, suc, nat_lt};
-ghost use Rattle.c_grammar.specs.Written as written;
+ghost use Rattle.c_words.specs.Written as written;
 ghost use Rattle.c_grammar.specs.Types as types;
-ghost use Rattle.c_grammar.specs.Expressions.{is_comma, assign, choice, or, and, bit_or, bit_xor, bit_and, equal, relation, shift, sum, product, unary, postfix, suffix, primary};
+ghost use Rattle.c_words.specs.OperatorWords.{is_comma};
+ghost use Rattle.c_grammar.specs.Expressions.{assign, choice, or, and, bit_or, bit_xor, bit_and, equal, relation, shift, sum, product, unary, postfix, suffix, primary};
 ghost use Rattle.c_nesting.specs.Measuring as measuring;
 ghost use Rattle.c_nesting.specs.Measuring.{Tells};
 
-use c_grammar::chain::Chain;
 use c_grammar::expression::{
     And, Assign, BitAnd, BitOr, BitXor, Choice, Equal, Or, Postfix, Primary, Product, Relation,
     Shift, Suffix, Sum, Unary,
 };
 use c_grammar::types::TypeName;
+use c_words::chain::Chain;
 use sqlite_items::Boxed;
 
 /// What tells whether an operand of a chain nests below a limit. It is used only where `can_tell` holds of it.

@@ -1,10 +1,10 @@
 -- Items: the parser gives a tree exactly where one stands.
 use Rattle.std.proofs.Common.{◌≡◌, ℕ, zero, suc, ◌+◌, ◌<◌, ◌≤◌, nat_le, Bool, true, false, ◌||◌, ◌&&◌, not, cond, List, [], ◌∷◌, ◌++◌, length, Option, Some, None, refl, sym, ap, ap₂, subst, ◌∙◌, ◌⊎◌, ⊎_elim, arith}
 use Rattle.std.proofs.lemmas.Bool.Decides.{nat_tests}
-use Rattle.c_grammar.specs.declared.word.Word.{Word}
-use Rattle.c_grammar.specs.declared.word.Word.TheVariants as w
-use Rattle.c_grammar.specs.declared.word.Leaf.{Leaf}
-use Rattle.c_grammar.specs.declared.chain.Chain.{Chain}
+use Rattle.c_words.specs.declared.word.Word.{Word}
+use Rattle.c_words.specs.declared.word.Word.TheVariants as w
+use Rattle.c_words.specs.declared.word.Leaf.{Leaf}
+use Rattle.c_words.specs.declared.chain.Chain.{Chain}
 use Rattle.c_grammar.specs.declared.types.Base.{Base}
 use Rattle.c_grammar.specs.declared.types.Star.{Star}
 use Rattle.c_grammar.specs.declared.declaration.Declared.{Declared}
@@ -16,19 +16,19 @@ use Rattle.c_grammar.specs.declared.program.Body.TheVariants as b
 use Rattle.c_grammar.specs.declared.program.Item.{Item}
 use Rattle.c_grammar.specs.declared.program.Item.TheVariants as i
 use Rattle.c_grammar.specs.declared.statement.Block.{Block}
-use Rattle.c_grammar.specs.Words.{same}
-use Rattle.c_grammar.specs.Written.{Written, nothing, ◌then◌, one, one_of, nested, only, optional, run, chain, Takes}
+use Rattle.c_words.specs.Words.{same}
+use Rattle.c_words.specs.Written.{Written, nothing, ◌then◌, one, one_of, nested, only, optional, run, chain, Takes}
 use Rattle.c_grammar.specs.Types.{base, star, stars_alone}
 use Rattle.c_grammar.specs.Types as types
-use Rattle.c_grammar.specs.Expressions.{is_comma}
+use Rattle.c_words.specs.OperatorWords.{is_comma}
 use Rattle.c_grammar.specs.Declarations.{declared, all_declared, sized, params}
 use Rattle.c_grammar.specs.Statements.{block}
 use Rattle.c_grammar.specs.Programs as grammar
 use Rattle.c_grammar.specs.Programs.{is_variable_prefix, is_function_prefix, is_empty, all_named, fits_params, item}
-use Rattle.c_grammar.specs.Parsing.{Leaves, Outcome, Parser, and_then, ◌>>=◌, pure, word_at, after, take_if, expect, run_at}
-use Rattle.c_grammar.proofs.Taking.{Takes-nothing, nothing-Takes, Takes-then, Split, then-Takes, one-Takes, Takes-nested, nested-Takes, both, first_of_both, second_of_both}
-use Rattle.c_grammar.proofs.Reading.{finish, after-one, bind_ok, gives_bind, chosen, choose, refuse_test, same_pair, Sound, Complete, Ends, Starts, take_if-takes, take_if-gives, take_if-word, first_of_neither, second_of_neither, at_one, word_is}
-use Rattle.c_grammar.proofs.Runs.{run-Sound, run-Complete, tokens-Sound, tokens-Complete}
+use Rattle.c_words.specs.Parsing.{Leaves, Outcome, Parser, and_then, ◌>>=◌, pure, word_at, after, take_if, expect, run_at}
+use Rattle.c_words.proofs.Taking.{Takes-nothing, nothing-Takes, Takes-then, Split, then-Takes, one-Takes, Takes-nested, nested-Takes, both, first_of_both, second_of_both}
+use Rattle.c_words.proofs.Reading.{finish, after-one, bind_ok, gives_bind, chosen, choose, refuse_test, same_pair, Sound, Complete, Ends, Starts, take_if-takes, take_if-gives, take_if-word, first_of_neither, second_of_neither, at_one, word_is}
+use Rattle.c_words.proofs.Runs.{run-Sound, run-Complete, tokens-Sound, tokens-Complete}
 use Rattle.c_type_names.specs.TypeReading.{begins_type, goes_on_base, stars_from}
 use Rattle.c_type_names.specs.TypeReading as t
 use Rattle.c_type_names.proofs.TypeLaws.{base-Sound, base-Complete, base-Starts, consts-Sound, consts-Complete, stars-Sound, stars-Complete, star-word}
@@ -190,7 +190,7 @@ module _ (n : ℕ) where
       let x = then-Takes r.second in
       let v = then-Takes x.second in
       let deep : 0 < n = omega (arith, v.second.below) in
-      gives_bind _ ((consts-Complete n).gives ts a.consts r.mid r.first (record { ends = type_not_const _ (base-Starts.word n r.mid a.base x.mid x.first) }))
+      gives_bind _ ((consts-Complete n).gives ts a.consts r.mid r.first (record { ends = type_not_const (word_at r.mid) (base-Starts.word n r.mid a.base x.mid x.first) }))
       (gives_bind _ ((base-Complete n).gives r.mid a.base x.mid x.first (record { ends = declarator_ends_base _ (declarators-Starts.word n x.mid a.declarators v.mid v.first) }))
       (gives_bind _ ((declarators-Complete n).gives x.mid a.declarators v.mid v.first (semicolon_ends_members a.semicolon v.second))
       (gives_bind _ (take_if-gives (same w.Semicolon) a.semicolon v.second) refl)))
@@ -217,7 +217,7 @@ module _ (n : ℕ) where
   unfolding unless optional
   names-gives None e ts mid rest h end = rw (nothing-Takes h) (choose (same w.Semicolon (word_at mid)) _ _ mid (take_if-word (same w.Semicolon) e end))
   names-gives (Some a) e ts mid rest h end =
-      refuse_test (same w.Semicolon (word_at ts)) _ _ ts (declarator_not_semicolon _ (all_declared-Starts.word (suc n) ts a mid h))
+      refuse_test (same w.Semicolon (word_at ts)) _ _ ts (declarator_not_semicolon (word_at ts) (all_declared-Starts.word (suc n) ts a mid h))
       ∙ gives_bind _ ((all_declared-Complete (suc n)).gives ts a mid h (semicolon_ends e end)) refl
 
   body-takes : (inside : Params) (ts : Leaves) (a : Body) (rest : Leaves) → read.body (suc n) n inside ts ≡ Some (a, rest) → Takes (suc n) ts (grammar.body a) rest × (fits_params inside a ≡ true)
@@ -242,7 +242,7 @@ module _ (n : ℕ) where
   unfolding read.body_where grammar.body
   body-gives inside (b.Absent e) ts rest h fits = choose (same w.Semicolon (word_at ts)) _ _ ts (take_if-word (same w.Semicolon) e h) ∙ gives_bind _ (take_if-gives (same w.Semicolon) e h) refl
   body-gives inside (b.Block x) ts rest h fits =
-      refuse_test (same w.Semicolon (word_at ts)) _ _ ts (brace_not_semicolon _ (block-Starts.word (suc n) ts x rest h))
+      refuse_test (same w.Semicolon (word_at ts)) _ _ ts (brace_not_semicolon (word_at ts) (block-Starts.word (suc n) ts x rest h))
       ∙ choose (all_named inside) _ _ ts fits
       ∙ gives_bind _ ((block_exact (suc n)).complete.gives ts x rest h (record { ends = refl })) refl
 
@@ -422,11 +422,11 @@ item-begins k ts (i.Struct s m op all cl names e) rest h = ap begins_item (word_
 item-begins k ts (i.Variables ps x names e) rest h =
     let a = then-Takes h in
     let c = then-Takes a.second in
-    declaration_begins _ (prefixed_begins ps (widen ps a.first).0 (base-Starts.word k a.mid x c.mid c.first))
+    declaration_begins (word_at ts) (prefixed_begins ps (widen ps a.first).0 (base-Starts.word k a.mid x c.mid c.first))
 item-begins k ts (i.Function ps x stars m op inside cl last) rest h =
     let a = then-Takes h in
     let c = then-Takes a.second in
-    declaration_begins _ (prefixed_begins ps a.first (base-Starts.word k a.mid x c.mid c.first))
+    declaration_begins (word_at ts) (prefixed_begins ps a.first (base-Starts.word k a.mid x c.mid c.first))
 item-begins k ts (i.Meta e) rest h = ap begins_item (word_is w.Meta e h)
 item-begins k ts (i.Ghost e) rest h = ap begins_item (word_is w.Ghost e h)
 

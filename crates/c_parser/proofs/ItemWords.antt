@@ -1,11 +1,11 @@
 -- What the first words of an item tell: a function, variables, or a struct's declaration.
 use Rattle.std.proofs.Common.{◌≡◌, ℕ, zero, suc, ◌+◌, ◌<◌, ◌≤◌, nat_le, Bool, true, false, ◌||◌, ◌&&◌, not, cond, List, [], ◌∷◌, ◌++◌, length, Option, Some, None, refl, sym, ap, ap₂, subst, ◌∙◌, arith}
 use Rattle.std.proofs.lemmas.Bool.Decides.{nat_tests}
-use Rattle.c_grammar.specs.declared.word.Word.{Word}
-use Rattle.c_grammar.specs.declared.word.Word.TheVariants as w
-use Rattle.c_grammar.specs.declared.word.Leaf.{Leaf}
-use Rattle.c_grammar.specs.declared.chain.Chain.{Chain}
-use Rattle.c_grammar.specs.declared.chain.Link.{Link}
+use Rattle.c_words.specs.declared.word.Word.{Word}
+use Rattle.c_words.specs.declared.word.Word.TheVariants as w
+use Rattle.c_words.specs.declared.word.Leaf.{Leaf}
+use Rattle.c_words.specs.declared.chain.Chain.{Chain}
+use Rattle.c_words.specs.declared.chain.Link.{Link}
 use Rattle.c_grammar.specs.declared.types.Specifier.{Specifier}
 use Rattle.c_grammar.specs.declared.types.Specifier.TheVariants as s
 use Rattle.c_grammar.specs.declared.types.Integer.{Integer}
@@ -17,15 +17,16 @@ use Rattle.c_grammar.specs.declared.declaration.Direct.{Direct}
 use Rattle.c_grammar.specs.declared.declaration.Direct.TheVariants as d
 use Rattle.c_grammar.specs.declared.declaration.Declared.{Declared}
 use Rattle.c_grammar.specs.declared.declaration.Declared.TheVariants as e
-use Rattle.c_grammar.specs.Words.{same}
-use Rattle.c_grammar.specs.Written.{Written, nothing, ◌then◌, one, one_of, nested, only, run, links, chain, Takes}
+use Rattle.c_words.specs.Words.{same}
+use Rattle.c_words.specs.Written.{Written, nothing, ◌then◌, one, one_of, nested, only, run, links, chain, Takes}
 use Rattle.c_grammar.specs.Types.{integer, specifier, consts, base, star, stars_alone, stars_before}
-use Rattle.c_grammar.specs.Expressions.{is_comma, choice}
+use Rattle.c_words.specs.OperatorWords.{is_comma}
+use Rattle.c_grammar.specs.Expressions.{choice}
 use Rattle.c_grammar.specs.Declarations.{array_of, direct, declarator, declared, is_unsized}
 use Rattle.c_grammar.specs.Programs.{is_variable_prefix, is_function_prefix}
-use Rattle.c_grammar.specs.Parsing.{Leaves, word_at, after}
-use Rattle.c_grammar.proofs.Taking.{nothing-Takes, Takes-then, then-Takes, one-Takes, both, first_of_both, second_of_both}
-use Rattle.c_grammar.proofs.Reading.{after-one, take_if-word, word_is, Starts}
+use Rattle.c_words.specs.Parsing.{Leaves, word_at, after}
+use Rattle.c_words.proofs.Taking.{nothing-Takes, Takes-then, then-Takes, one-Takes, both, first_of_both, second_of_both}
+use Rattle.c_words.proofs.Reading.{after-one, take_if-word, word_is, Starts}
 use Rattle.c_declarations.specs.DeclaratorReading.{begins_direct, begins_declarator}
 use Rattle.c_grammar.proofs.DeclaratorShapes.{direct_cases, direct-Name, direct-Unsized, direct-Paren, direct-Array, declarator-is}
 use Rattle.c_type_names.specs.TypeReading.{begins_integer, begins_type}

@@ -1,9 +1,9 @@
 -- A leaf that is taken by a test of its word.
 use Rattle.std.proofs.Common.{◌≡◌, Bool, true, false, List, [], ◌∷◌, None, refl, arith}
 use Rattle.std.proofs.lemmas.Bool.Decides.{nat_tests}
-use Rattle.c_grammar.specs.declared.word.Word.{Word}
-use Rattle.c_grammar.specs.Words.{same, index}
-use Rattle.c_grammar.specs.Parsing.{Leaves, word_at, take_if}
+use Rattle.c_words.specs.declared.word.Word.{Word}
+use Rattle.c_words.specs.Words.{same, index}
+use Rattle.c_words.specs.Parsing.{Leaves, word_at, take_if}
 
 same_self : (x : Word) → same x x ≡ true
 same_self x = grind (arith, nat_tests)

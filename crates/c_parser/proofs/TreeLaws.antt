@@ -1,18 +1,18 @@
 -- A tree stands for the tokens exactly where the parser gives it.
 use Rattle.std.proofs.Common.{◌≡◌, ℕ, zero, suc, ◌<◌, ◌≤◌, ◌+◌, max, Bool, true, false, List, [], ◌++◌, Option, Some, None, Result, Ok, Err, IfOk, refl, sym, ap, subst, ◌∙◌, append-nil, arith}
 use Rattle.c_lexer.specs.declared.token.Token.{Token}
-use Rattle.c_grammar.specs.declared.word.Mode.{Mode}
-use Rattle.c_grammar.specs.declared.word.Word.TheVariants as w
-use Rattle.c_grammar.specs.declared.word.Leaf.{Leaf}
+use Rattle.c_words.specs.declared.word.Mode.{Mode}
+use Rattle.c_words.specs.declared.word.Word.TheVariants as w
+use Rattle.c_words.specs.declared.word.Leaf.{Leaf}
 use Rattle.c_grammar.specs.declared.program.Item.{Item}
 use Rattle.c_grammar.specs.declared.program.ProgramTree.{ProgramTree}
-use Rattle.c_grammar.specs.declared.fault.ParseFault.{ParseFault}
-use Rattle.c_grammar.specs.Words.{leaves_of}
-use Rattle.c_grammar.specs.Written.{run, Takes}
+use Rattle.c_words.specs.declared.fault.ParseFault.{ParseFault}
+use Rattle.c_words.specs.Words.{leaves_of}
+use Rattle.c_words.specs.Written.{run, Takes}
 use Rattle.c_grammar.specs.Programs.{item, program, nesting_limit, Spells, IsTreeOf, HasNoTree, HaveOneTree}
-use Rattle.c_grammar.specs.Parsing.{Leaves, word_at}
-use Rattle.c_grammar.proofs.Reading.{Sound, Complete, Ends, same_pair}
-use Rattle.c_grammar.proofs.Runs.{run-Sound, run-Complete}
+use Rattle.c_words.specs.Parsing.{Leaves, word_at}
+use Rattle.c_words.proofs.Reading.{Sound, Complete, Ends, same_pair}
+use Rattle.c_words.proofs.Runs.{run-Sound, run-Complete}
 use Rattle.c_parser.specs.ItemReading.{begins_item, items_at, IsWhole}
 use Rattle.c_parser.proofs.ItemLaws.{item-Sound, item-Complete, item-Starts}
 

@@ -2,11 +2,11 @@
 use Rattle.std.specs.Prelude.{◌≡◌, ℕ, zero, suc, nat_le, Bool, true, false, not, ◌||◌, ◌&&◌, if◌then◌else◌, List, [], ◌∷◌, ◌++◌, Option, Some, None}
 use Rattle.std.specs.List.{list_all}
 use Rattle.c_lexer.specs.declared.token.Token.{Token}
-use Rattle.c_grammar.specs.declared.word.Mode.{Mode}
-use Rattle.c_grammar.specs.declared.word.Word.{Word}
-use Rattle.c_grammar.specs.declared.word.Word.TheVariants as w
-use Rattle.c_grammar.specs.declared.word.Leaf.{Leaf}
-use Rattle.c_grammar.specs.declared.chain.Chain.{Chain}
+use Rattle.c_words.specs.declared.word.Mode.{Mode}
+use Rattle.c_words.specs.declared.word.Word.{Word}
+use Rattle.c_words.specs.declared.word.Word.TheVariants as w
+use Rattle.c_words.specs.declared.word.Leaf.{Leaf}
+use Rattle.c_words.specs.declared.chain.Chain.{Chain}
 use Rattle.c_grammar.specs.declared.types.Base.{Base}
 use Rattle.c_grammar.specs.declared.declaration.Declared.{Declared}
 use Rattle.c_grammar.specs.declared.declaration.Params.{Params}
@@ -16,9 +16,9 @@ use Rattle.c_grammar.specs.declared.program.Body.TheVariants as b
 use Rattle.c_grammar.specs.declared.program.Item.{Item}
 use Rattle.c_grammar.specs.declared.program.Item.TheVariants as i
 use Rattle.c_grammar.specs.declared.program.ProgramTree.{ProgramTree}
-use Rattle.c_grammar.specs.Words.{same, leaves_of}
+use Rattle.c_words.specs.Words.{same, leaves_of}
 use Rattle.c_grammar.specs.Programs.{is_variable_prefix, is_function_prefix, is_empty, all_named, nesting_limit}
-use Rattle.c_grammar.specs.Parsing.{Parser, Leaves, ◌>>=◌, ◌>>◌, ◌<$>◌, pure, refuse, word_at, after, peek, take_if, expect, run_at}
+use Rattle.c_words.specs.Parsing.{Parser, Leaves, ◌>>=◌, ◌>>◌, ◌<$>◌, pure, refuse, word_at, after, peek, take_if, expect, run_at}
 use Rattle.c_type_names.specs.TypeReading.{consts, base, stars_from, begins_type}
 use Rattle.c_declarations.specs.DeclaredReading.{all_declared, declarators}
 use Rattle.c_declarations.specs.ParameterReading.{params}

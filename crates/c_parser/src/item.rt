@@ -3,7 +3,7 @@
 ghost use Rattle.std.specs.Prelude.{◌≡◌, suc};
 ghost use Rattle.std.specs.List.{list_all};
 ghost use Rattle.c_grammar.specs.Programs as grammar;
-ghost use Rattle.c_grammar.specs.Parsing.{Reads, take_if, run_at};
+ghost use Rattle.c_words.specs.Parsing.{Reads, take_if, run_at};
 ghost use Rattle.c_statements.specs.StatementReading.{unless};
 ghost use Rattle.c_declarations.specs.DeclaredReading as declared_spec;
 ghost use Rattle.c_type_names.specs.Held.{ReadsAfter};
@@ -12,17 +12,17 @@ ghost use Rattle.c_parser.specs.ItemReading as spec;
 use crate::look::{begins_function, begins_type, is_function_prefix, is_struct};
 use c_declarations::declared::{all_declared, then_all_declared, then_declarators};
 use c_declarations::parameter::then_params;
+use c_grammar::declaration::{Declared, Parameter, Params};
+use c_grammar::program::{Body, Item, Member};
+use c_grammar::types::Base;
+use c_statements::statement::block;
 use c_type_names::chain::{Part, run};
 use c_type_names::held::{then_base, then_expect, then_stars, unless_refused};
 use c_type_names::types::consts;
-use c_grammar::chain::{Chain, Link};
-use c_grammar::cursor::{Cursor, same};
-use c_grammar::declaration::{Declared, Parameter, Params};
-use c_grammar::fault::ParseFault;
-use c_grammar::program::{Body, Item, Member};
-use c_grammar::types::Base;
-use c_grammar::word::{Leaf, Word};
-use c_statements::statement::block;
+use c_words::chain::{Chain, Link};
+use c_words::cursor::{Cursor, same};
+use c_words::fault::ParseFault;
+use c_words::word::{Leaf, Word};
 use sqlite_items::Items;
 use std::alloc::Global;
 
@@ -88,9 +88,9 @@ fn all_named(params: &Params) -> bool
 }
 
 /// Reads `static`, `extern` and `const`.
-struct Prefix;
+struct FunctionPrefix;
 
-impl Part<Leaf> for Prefix {
+impl Part<Leaf> for FunctionPrefix {
     ghost can_read = { λ _. Unit {0} };
 
     ghost begins = { λ _. grammar.is_function_prefix };
@@ -109,7 +109,7 @@ impl Part<Leaf> for Prefix {
 fn prefixes(alloc: Global, tokens: &mut Cursor<'_>) -> Result<Items<Leaf>, ParseFault>
     ensures { Reads (run_at grammar.is_function_prefix (take_if grammar.is_function_prefix) tokens.old) result tokens.new }
 {
-    run(alloc, tokens, &Prefix)
+    run(alloc, tokens, &FunctionPrefix)
 }
 
 impl ItemReader {

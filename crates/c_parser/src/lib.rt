@@ -6,10 +6,8 @@ mod item;
 mod look;
 mod program;
 
-pub use c_grammar::fault::ParseFault;
 pub use c_grammar::program::ProgramTree;
-pub use c_grammar::word::Mode;
-pub use first_form::{
-    FirstFunction, FirstProperty, FirstStmt, FirstTree, first_tree, one_program,
-};
+pub use c_words::fault::ParseFault;
+pub use c_words::word::Mode;
+pub use first_form::{FirstFunction, FirstProperty, FirstStmt, FirstTree, first_tree, one_program};
 pub use program::{one_tree, parse_program};

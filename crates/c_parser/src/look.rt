@@ -1,14 +1,14 @@
 //! What is looked at before an item is read.
 
 ghost use Rattle.std.specs.Prelude.{◌≡◌, ◌≤◌, if◌then◌else◌, length};
-ghost use Rattle.c_grammar.specs.declared.word.Word.TheVariants as w;
-ghost use Rattle.c_grammar.specs.Words.{same as same_word};
+ghost use Rattle.c_words.specs.declared.word.Word.TheVariants as w;
+ghost use Rattle.c_words.specs.Words.{same as same_word};
 ghost use Rattle.c_grammar.specs.Programs as grammar;
 ghost use Rattle.c_type_names.specs.TypeReading as types;
 ghost use Rattle.c_parser.specs.ItemReading as spec;
 
-use c_grammar::cursor::{Cursor, same};
-use c_grammar::word::{Leaf, Word};
+use c_words::cursor::{Cursor, same};
+use c_words::word::{Leaf, Word};
 
 fn is_variable_prefix(word: Word) -> bool
     ensures { result ≡ grammar.is_variable_prefix word }

@@ -2,19 +2,19 @@
 
 ghost use Rattle.std.specs.Prelude.{◌≡◌, [], ◌+◌, suc, Some, IfOk};
 ghost use Rattle.c_grammar.specs.Programs.{IsTreeOf, HasNoTree, HaveOneTree, nesting_limit as nesting_limit_of};
-ghost use Rattle.c_grammar.specs.Parsing.{Reads, IsSyntax};
+ghost use Rattle.c_words.specs.Parsing.{Reads, IsSyntax};
 ghost use Rattle.c_parser.specs.ItemReading as spec;
 ghost use Rattle.c_parser.specs.ItemReading.{IsWhole};
 
 use crate::item::ItemReader;
+use c_grammar::program::{Item, ProgramTree};
+use c_lexer::Token;
 use c_type_names::chain::run;
 use c_type_names::held::unless_refused;
-use c_grammar::cursor::Cursor;
-use c_grammar::fault::ParseFault;
-use c_grammar::leaf::leaves_of;
-use c_grammar::program::{Item, ProgramTree};
-use c_grammar::word::{Leaf, Mode};
-use c_lexer::Token;
+use c_words::cursor::Cursor;
+use c_words::fault::ParseFault;
+use c_words::leaf::leaves_of;
+use c_words::word::{Leaf, Mode};
 use sqlite_items::Items;
 use std::alloc::Global;
 

@@ -1,6 +1,6 @@
 -- Where nothing may nest.
 use Rattle.std.proofs.Common.{◌≡◌, ℕ, zero, suc, ◌<◌, Some, None, refl, arith}
-use Rattle.c_grammar.specs.Parsing.{Leaves, Parser}
+use Rattle.c_words.specs.Parsing.{Leaves, Parser}
 use Rattle.c_expressions.specs.ExpressionReading.{deep}
 
 pub deep-takes : {A : Type 0} (k : ℕ) (p : Parser A) (ts : Leaves) (a : A) (rest : Leaves) → deep k p ts ≡ Some (a, rest) → (0 < k) × (p ts ≡ Some (a, rest))

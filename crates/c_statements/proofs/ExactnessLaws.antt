@@ -1,7 +1,7 @@
 -- Blocks are read exactly, and leaves spell one block at most.
 use Rattle.std.proofs.Common.{◌≡◌, suc, max, false, [], Some, refl, sym, ◌∙◌, append-nil, arith}
 use Rattle.c_grammar.specs.Statements.{block}
-use Rattle.c_grammar.proofs.Reading.{Ends, same_pair}
+use Rattle.c_words.proofs.Reading.{Ends, same_pair}
 use Rattle.c_statements.specs.StatementReading.{block_at}
 use Rattle.c_statements.specs.Exactness.{ReadsBlocks, HaveOneBlock}
 use Rattle.c_statements.proofs.StatementLaws.{block_exact}

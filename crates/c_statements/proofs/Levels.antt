@@ -1,6 +1,6 @@
 -- One level of statements and blocks, as the code reads it.
 use Rattle.std.proofs.Common.{◌≡◌, ℕ, zero, suc, ◌-◌, ◌<◌, refl, arith}
-use Rattle.c_grammar.specs.Parsing.{Leaves}
+use Rattle.c_words.specs.Parsing.{Leaves}
 use Rattle.c_statements.specs.StatementReading as read
 use Rattle.c_statements.specs.StatementReading.{stmt_at, block_at, at_level}
 

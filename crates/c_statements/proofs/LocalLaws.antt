@@ -1,21 +1,21 @@
 -- Declarations in a function: the parser gives a tree exactly where one stands.
 use Rattle.std.proofs.Common.{◌≡◌, ℕ, ◌<◌, Bool, true, false, ◌||◌, List, [], ◌∷◌, Some, refl, ◌∙◌, ⊎_elim, arith}
-use Rattle.c_grammar.specs.declared.word.Word.{Word}
-use Rattle.c_grammar.specs.declared.word.Word.TheVariants as w
-use Rattle.c_grammar.specs.declared.word.Leaf.{Leaf}
-use Rattle.c_grammar.specs.declared.chain.Chain.{Chain}
+use Rattle.c_words.specs.declared.word.Word.{Word}
+use Rattle.c_words.specs.declared.word.Word.TheVariants as w
+use Rattle.c_words.specs.declared.word.Leaf.{Leaf}
+use Rattle.c_words.specs.declared.chain.Chain.{Chain}
 use Rattle.c_grammar.specs.declared.types.Base.{Base}
 use Rattle.c_grammar.specs.declared.declaration.Declared.{Declared}
 use Rattle.c_grammar.specs.declared.statement.Local.{Local}
 use Rattle.c_grammar.specs.declared.statement.Local.TheVariants as l
-use Rattle.c_grammar.specs.Words.{same}
-use Rattle.c_grammar.specs.Written.{Written, ◌then◌, one, one_of, run, Takes}
+use Rattle.c_words.specs.Words.{same}
+use Rattle.c_words.specs.Written.{Written, ◌then◌, one, one_of, run, Takes}
 use Rattle.c_grammar.specs.Types.{consts, base}
 use Rattle.c_grammar.specs.Declarations.{all_declared}
 use Rattle.c_grammar.specs.Statements.{local}
-use Rattle.c_grammar.specs.Parsing.{Leaves, word_at, take_if, expect}
-use Rattle.c_grammar.proofs.Taking.{nothing-Takes, Takes-then, then-Takes}
-use Rattle.c_grammar.proofs.Reading.{bind_ok, gives_bind, chosen, choose, refuse_test, Sound, Complete, Starts, take_if-takes, take_if-gives, take_if-word, finish, at_word, at_one, word_is}
+use Rattle.c_words.specs.Parsing.{Leaves, word_at, take_if, expect}
+use Rattle.c_words.proofs.Taking.{nothing-Takes, Takes-then, then-Takes}
+use Rattle.c_words.proofs.Reading.{bind_ok, gives_bind, chosen, choose, refuse_test, Sound, Complete, Starts, take_if-takes, take_if-gives, take_if-word, finish, at_word, at_one, word_is}
 use Rattle.c_type_names.specs.TypeReading as types
 use Rattle.c_type_names.specs.TypeReading.{begins_type, goes_on_base}
 use Rattle.c_declarations.specs.DeclaratorReading.{begins_declarator}
@@ -139,7 +139,7 @@ module _ (k : ℕ) where
       let t = then-Takes s.second in
       let base_there = base-Starts.word k s.mid x t.mid t.first in
       deep_gives k _ ts some
-      ∙ refuse_test (same w.Register (word_at ts)) _ _ ts (variables_no_register _ (consts_begin cs s.first base_there))
+      ∙ refuse_test (same w.Register (word_at ts)) _ _ ts (variables_no_register (word_at ts) (consts_begin cs s.first base_there))
       ∙ gives_bind _ ((consts-Complete k).gives ts cs s.mid s.first (at_word begins_type type_not_const base_there))
       (gives_bind _ (base-gives x names semicolon s.mid t.mid rest t.first t.second) (gives_bind _ (names-gives names semicolon t.mid rest t.second) refl))
 

@@ -1,22 +1,22 @@
 -- Statements and blocks at one level: a tree that stands there is what the parser gives.
 use Rattle.std.proofs.Common.{◌≡◌, ℕ, zero, suc, Bool, true, false, ◌&&◌, ◌||◌, not, Option, Some, None, refl, sym, ap, subst, ◌∙◌, arith}
-use Rattle.c_grammar.specs.declared.word.Word.{Word}
-use Rattle.c_grammar.specs.declared.word.Word.TheVariants as w
-use Rattle.c_grammar.specs.declared.word.Leaf.{Leaf}
+use Rattle.c_words.specs.declared.word.Word.{Word}
+use Rattle.c_words.specs.declared.word.Word.TheVariants as w
+use Rattle.c_words.specs.declared.word.Leaf.{Leaf}
 use Rattle.c_grammar.specs.declared.expression.Assign.{Assign}
 use Rattle.c_grammar.specs.declared.statement.ForFirst.{ForFirst}
 use Rattle.c_grammar.specs.declared.statement.ForFirst.TheVariants as f
 use Rattle.c_grammar.specs.declared.statement.Stmt.{Stmt}
 use Rattle.c_grammar.specs.declared.statement.Stmt.TheVariants as s
 use Rattle.c_grammar.specs.declared.statement.Block.{Block}
-use Rattle.c_grammar.specs.Words.{same}
-use Rattle.c_grammar.specs.Written.{Written, nothing, ◌then◌, one, one_of, nested, only, optional, run, Takes}
+use Rattle.c_words.specs.Words.{same}
+use Rattle.c_words.specs.Written.{Written, nothing, ◌then◌, one, one_of, nested, only, optional, run, Takes}
 use Rattle.c_grammar.specs.Expressions.{assign}
 use Rattle.c_grammar.specs.Statements.{for_first, head, shape, block, block_part, stmt, is_dangling}
-use Rattle.c_grammar.specs.Parsing.{Leaves, Outcome, Parser, word_at, take_if, run_at}
-use Rattle.c_grammar.proofs.Taking.{nothing-Takes, Takes-then, then-Takes, nested-Takes, same_is}
-use Rattle.c_grammar.proofs.Reading.{gives_bind, choose, refuse_test, Complete, Ends, Starts, take_if-gives, take_if-word, at_one, word_is}
-use Rattle.c_grammar.proofs.Runs.{run-Complete, CompleteBy}
+use Rattle.c_words.specs.Parsing.{Leaves, Outcome, Parser, word_at, take_if, run_at}
+use Rattle.c_words.proofs.Taking.{nothing-Takes, Takes-then, then-Takes, nested-Takes, same_is}
+use Rattle.c_words.proofs.Reading.{gives_bind, choose, refuse_test, Complete, Ends, Starts, take_if-gives, take_if-word, at_one, word_is}
+use Rattle.c_words.proofs.Runs.{run-Complete, CompleteBy}
 use Rattle.c_expressions.specs.ExpressionReading.{begins_expression, goes_on_assign}
 use Rattle.c_statements.specs.declared.head.Head.{Head}
 use Rattle.c_statements.specs.declared.head.Control.{Control}
@@ -36,7 +36,7 @@ unfolding read.unless optional
 unless-gives k stop part f goes_on begins complete starts apart over ts None rest h there =
     rw (nothing-Takes h) (choose (same stop (word_at rest)) _ _ rest there)
 unless-gives k stop part f goes_on begins complete starts apart over ts (Some x) rest h there =
-    refuse_test (same stop (word_at ts)) _ _ ts (apart _ (starts.word k ts x rest h))
+    refuse_test (same stop (word_at ts)) _ _ ts (apart (word_at ts) (starts.word k ts x rest h))
     ∙ gives_bind _ (complete.gives ts x rest h (record { ends = ap goes_on (sym (same_is stop _ there)) ∙ over })) refl
 
 pub up_to-gives : {A : Type 0} (k : ℕ) (stop : Word) (part : Parser A) (f : A → Written) (goes_on begins : Word → Bool) → Complete k part f goes_on → Starts f begins
@@ -164,7 +164,7 @@ module _ (n : ℕ) (here inside : Parser Assign) (inner : Parser Stmt) (here_com
         choose (begins_local (word_at ts)) _ _ ts (local-Starts.word n ts x rest l) ∙ gives_bind _ ((local-Complete n).gives ts x rest l (record { ends = refl })) refl)
         (λ x h end.
         let s = subst (λ v. Takes n ts v rest) (block_part-Stmt x) h in
-        refuse_test (begins_local (word_at ts)) _ _ ts (stmt_not_local _ (stmt-Starts.word n ts x rest s))
+        refuse_test (begins_local (word_at ts)) _ _ ts (stmt_not_local (word_at ts) (stmt-Starts.word n ts x rest s))
         ∙ gives_bind _ (inner_complete.gives ts x rest s (record { ends = no_else (is_dangling x) _ end.ends })) refl)
         a;
   }
@@ -315,7 +315,7 @@ module _ (n : ℕ) (here inside : Parser Assign) (inner : Parser Stmt) (here_com
   for_first-gives ts (f.Local x) rest h =
       choose (begins_local (word_at ts)) _ _ ts (local-Starts.word n ts x rest h) ∙ gives_bind _ ((local-Complete n).gives ts x rest h (record { ends = refl })) refl
   for_first-gives ts (f.Expression v z) rest h =
-      refuse_test (begins_local (word_at ts)) _ _ ts (stmt_not_local _ (value_begins v z h))
+      refuse_test (begins_local (word_at ts)) _ _ ts (stmt_not_local (word_at ts) (value_begins v z h))
       ∙ gives_bind _ (up_to-gives n w.Semicolon inside assign goes_on_assign begins_expression inside_complete assign-Starts expression_not_semicolon refl ts v z rest h) refl
 
   -- a leaf nests nothing

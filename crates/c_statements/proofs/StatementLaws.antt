@@ -1,10 +1,10 @@
 -- Statements and blocks at all levels: the parser gives a tree exactly where one stands.
 use Rattle.std.proofs.Common.{◌≡◌, ℕ, zero, suc, false, Option, Some, None, refl, arith}
-use Rattle.c_grammar.specs.declared.word.Word.TheVariants as w
-use Rattle.c_grammar.specs.Words.{same}
+use Rattle.c_words.specs.declared.word.Word.TheVariants as w
+use Rattle.c_words.specs.Words.{same}
 use Rattle.c_grammar.specs.Statements.{block, stmt}
-use Rattle.c_grammar.proofs.Reading.{Sound, Complete, Starts}
-use Rattle.c_grammar.proofs.Runs.{CompleteBy}
+use Rattle.c_words.proofs.Reading.{Sound, Complete, Starts}
+use Rattle.c_words.proofs.Runs.{CompleteBy}
 use Rattle.c_expressions.specs.ExpressionReading.{inner_at}
 use Rattle.c_statements.specs.StatementReading.{stmt_at, block_at, goes_on_stmt}
 use Rattle.c_expressions.proofs.ExpressionLaws.{exact}

@@ -1,8 +1,8 @@
 -- What each alternative of a statement and of a block writes, as one equation each, and cases on a tree.
 use Rattle.std.proofs.Common.{◌≡◌, Bool, true, false, not, List, Option, refl, sym, ap, subst, ◌∙◌}
-use Rattle.c_grammar.specs.declared.word.Word.{Word}
-use Rattle.c_grammar.specs.declared.word.Word.TheVariants as w
-use Rattle.c_grammar.specs.declared.word.Leaf.{Leaf}
+use Rattle.c_words.specs.declared.word.Word.{Word}
+use Rattle.c_words.specs.declared.word.Word.TheVariants as w
+use Rattle.c_words.specs.declared.word.Leaf.{Leaf}
 use Rattle.c_grammar.specs.declared.expression.Assign.{Assign}
 use Rattle.c_grammar.specs.declared.statement.Local.{Local}
 use Rattle.c_grammar.specs.declared.statement.ForFirst.{ForFirst}
@@ -12,7 +12,7 @@ use Rattle.c_grammar.specs.declared.statement.Block.{Block, fold-roll-Block, out
 use Rattle.c_grammar.specs.declared.statement.BlockPart.{BlockPart, fold-roll-BlockPart, out-BlockPart, roll-BlockPart, roll-out-BlockPart}
 use Rattle.c_grammar.specs.declared.statement.Stmt.TheVariants as s
 use Rattle.c_grammar.specs.declared.statement.BlockPart.TheVariants as b
-use Rattle.c_grammar.specs.Written.{Written, ◌then◌, one, nested, only, optional, run}
+use Rattle.c_words.specs.Written.{Written, ◌then◌, one, nested, only, optional, run}
 use Rattle.c_grammar.specs.Expressions.{assign}
 use Rattle.c_grammar.specs.Statements.{local, for_first, Shape, head, stmt_step, block_part_step, block_step, shape, block, block_part, stmt, is_dangling}
 use Rattle.c_grammar.proofs.ExpressionShapes.{run-map}

@@ -1,19 +1,19 @@
 -- Statements and blocks at one level: what the parser gives stands there.
 use Rattle.std.proofs.Common.{◌≡◌, ℕ, suc, ◌<◌, Bool, true, false, ◌&&◌, not, Option, Some, refl, sym, ap, ◌∙◌, ⊎_elim, arith}
-use Rattle.c_grammar.specs.declared.word.Word.{Word}
-use Rattle.c_grammar.specs.declared.word.Word.TheVariants as w
-use Rattle.c_grammar.specs.declared.word.Leaf.{Leaf}
+use Rattle.c_words.specs.declared.word.Word.{Word}
+use Rattle.c_words.specs.declared.word.Word.TheVariants as w
+use Rattle.c_words.specs.declared.word.Leaf.{Leaf}
 use Rattle.c_grammar.specs.declared.expression.Assign.{Assign}
 use Rattle.c_grammar.specs.declared.statement.ForFirst.{ForFirst}
 use Rattle.c_grammar.specs.declared.statement.Stmt.{Stmt}
-use Rattle.c_grammar.specs.Words.{same}
-use Rattle.c_grammar.specs.Written.{Written, nothing, ◌then◌, one, one_of, only, optional, run, Takes}
+use Rattle.c_words.specs.Words.{same}
+use Rattle.c_words.specs.Written.{Written, nothing, ◌then◌, one, one_of, only, optional, run, Takes}
 use Rattle.c_grammar.specs.Expressions.{assign}
 use Rattle.c_grammar.specs.Statements.{for_first, head, shape, block, block_part, stmt, is_dangling}
-use Rattle.c_grammar.specs.Parsing.{Leaves, Outcome, Parser, word_at, take_if, expect, run_at}
-use Rattle.c_grammar.proofs.Taking.{Takes-nothing, Takes-then, then-Takes, Takes-nested}
-use Rattle.c_grammar.proofs.Reading.{bind_ok, chosen, same_pair, Sound, take_if-takes, finish}
-use Rattle.c_grammar.proofs.Runs.{run-Sound}
+use Rattle.c_words.specs.Parsing.{Leaves, Outcome, Parser, word_at, take_if, expect, run_at}
+use Rattle.c_words.proofs.Taking.{Takes-nothing, Takes-then, then-Takes, Takes-nested}
+use Rattle.c_words.proofs.Reading.{bind_ok, chosen, same_pair, Sound, take_if-takes, finish}
+use Rattle.c_words.proofs.Runs.{run-Sound}
 use Rattle.c_statements.specs.declared.head.Control.{Control}
 use Rattle.c_statements.specs.StatementReading as read
 use Rattle.c_statements.specs.StatementReading.{begins_local, begins_stmt, begins_part, goes_on_stmt}

@@ -1,8 +1,8 @@
 -- Turns of the loop that reads parts one after another.
 use Rattle.std.proofs.Common.{◌≡◌, ℕ, suc, ◌+◌, ◌-◌, ◌<◌, ◌≤◌, Bool, true, false, List, [], ◌∷◌, ◌++◌, Some, None, refl, ap, ◌∙◌, arith}
-use Rattle.c_grammar.specs.declared.word.Word.{Word}
-use Rattle.c_grammar.specs.Parsing.{Leaves, Outcome, Parser, and_then, pure, word_at, run_from}
-use Rattle.c_grammar.proofs.Reading.{bind_ok, gives_bind, choose, refuse_test, same_pair}
+use Rattle.c_words.specs.declared.word.Word.{Word}
+use Rattle.c_words.specs.Parsing.{Leaves, Outcome, Parser, and_then, pure, word_at, run_from}
+use Rattle.c_words.proofs.Reading.{bind_ok, gives_bind, choose, refuse_test, same_pair}
 
 module _ {A : Type 0} (begins : Word → Bool) (part : Parser A) where
   pub no_turn_left : (turn end : ℕ) (found : List A) (ts : Leaves) → end ≤ turn → run_from begins part (end - turn) found ts ≡ Some (found, ts)

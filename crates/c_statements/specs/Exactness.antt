@@ -1,8 +1,8 @@
 -- What it is for blocks to be read exactly, and for leaves to spell one block at most.
 use Rattle.std.specs.Prelude.{◌≡◌, ◌↔◌, ℕ, true, List, [], Some}
-use Rattle.c_grammar.specs.declared.word.Leaf.{Leaf}
+use Rattle.c_words.specs.declared.word.Leaf.{Leaf}
 use Rattle.c_grammar.specs.declared.statement.Block.{Block}
-use Rattle.c_grammar.specs.Written.{Takes}
+use Rattle.c_words.specs.Written.{Takes}
 use Rattle.c_grammar.specs.Statements.{block}
 use Rattle.c_statements.specs.StatementReading.{block_at}
 

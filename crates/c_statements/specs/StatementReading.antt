@@ -1,9 +1,9 @@
 -- Reading of statements. What nests is read by the parsers that are passed in.
 use Rattle.std.specs.Prelude.{ℕ, zero, suc, Bool, true, ◌||◌, ◌&&◌, if◌then◌else◌, List, [], ◌∷◌, ◌++◌, Option, Some, None}
-use Rattle.c_grammar.specs.declared.word.Word.{Word}
-use Rattle.c_grammar.specs.declared.word.Word.TheVariants as w
-use Rattle.c_grammar.specs.declared.word.Leaf.{Leaf}
-use Rattle.c_grammar.specs.declared.chain.Chain.{Chain}
+use Rattle.c_words.specs.declared.word.Word.{Word}
+use Rattle.c_words.specs.declared.word.Word.TheVariants as w
+use Rattle.c_words.specs.declared.word.Leaf.{Leaf}
+use Rattle.c_words.specs.declared.chain.Chain.{Chain}
 use Rattle.c_grammar.specs.declared.expression.Assign.{Assign}
 use Rattle.c_grammar.specs.declared.declaration.Declared.{Declared}
 use Rattle.c_grammar.specs.declared.statement.Local.{Local}
@@ -17,9 +17,9 @@ use Rattle.c_grammar.specs.declared.statement.BlockPart.{BlockPart}
 use Rattle.c_grammar.specs.declared.statement.BlockPart.TheVariants as b
 use Rattle.c_statements.specs.declared.head.Head.{Head}
 use Rattle.c_statements.specs.declared.head.Control.{Control}
-use Rattle.c_grammar.specs.Words.{same}
+use Rattle.c_words.specs.Words.{same}
 use Rattle.c_grammar.specs.Statements.{is_dangling}
-use Rattle.c_grammar.specs.Parsing.{Parser, ◌>>=◌, ◌<$>◌, pure, refuse, peek, expect, run_at}
+use Rattle.c_words.specs.Parsing.{Parser, ◌>>=◌, ◌<$>◌, pure, refuse, peek, expect, run_at}
 use Rattle.c_type_names.specs.TypeReading.{consts, base, begins_type}
 use Rattle.c_expressions.specs.ExpressionReading.{inner_at, deep, begins_expression}
 use Rattle.c_declarations.specs.DeclaredReading.{all_declared}

@@ -1,15 +1,15 @@
 //! What stands before the body of a statement.
 
-use c_grammar::expression::Assign;
 use c_grammar::statement::ForFirst;
-use c_grammar::word::Leaf;
+use c_grammar::whole::Expression;
+use c_words::word::Leaf;
 
 /// A word, and a condition in parentheses.
 #[derive(Drop)]
 pub struct Head {
     pub first: Leaf,
     pub opening: Leaf,
-    pub test: Assign,
+    pub test: Expression,
     pub closing: Leaf,
 }
 
@@ -19,8 +19,8 @@ pub struct Control {
     pub first: Leaf,
     pub opening: Leaf,
     pub start: ForFirst,
-    pub test: Option<Assign>,
+    pub test: Option<Expression>,
     pub semicolon: Leaf,
-    pub step: Option<Assign>,
+    pub step: Option<Expression>,
     pub closing: Leaf,
 }

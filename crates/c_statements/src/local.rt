@@ -1,19 +1,19 @@
 //! Declarations in a function.
 
 ghost use Rattle.std.specs.Prelude.{◌≡◌};
-ghost use Rattle.c_grammar.specs.Parsing.{Reads};
+ghost use Rattle.c_words.specs.Parsing.{Reads};
 ghost use Rattle.c_type_names.specs.Held.{ReadsAfter};
 ghost use Rattle.c_statements.specs.StatementReading as spec;
 
 use c_declarations::declared::all_declared;
+use c_grammar::declaration::Declared;
+use c_grammar::statement::Local;
 use c_type_names::held::{then_base, then_expect};
 use c_type_names::types::{base, consts};
-use c_grammar::chain::Chain;
-use c_grammar::cursor::{Cursor, same};
-use c_grammar::declaration::Declared;
-use c_grammar::fault::ParseFault;
-use c_grammar::statement::Local;
-use c_grammar::word::{Leaf, Word};
+use c_words::chain::Chain;
+use c_words::cursor::{Cursor, same};
+use c_words::fault::ParseFault;
+use c_words::word::{Leaf, Word};
 use std::alloc::Global;
 
 /// Whether a declaration begins with the word.

@@ -3,13 +3,13 @@
 ghost use Rattle.std.specs.Prelude.{[], ◌∷◌, ◌++◌};
 ghost use Rattle.c_grammar.specs.declared.statement.Stmt.TheVariants as s;
 ghost use Rattle.c_grammar.specs.declared.statement.BlockPart.TheVariants as b;
-ghost use Rattle.c_grammar.specs.Parsing.{Reads, pure};
+ghost use Rattle.c_words.specs.Parsing.{Reads, pure};
 
 use crate::head::{Control, Head};
-use c_type_names::held::{boxed, pushed};
-use c_grammar::fault::ParseFault;
 use c_grammar::statement::{BlockPart, Local, Stmt};
-use c_grammar::word::Leaf;
+use c_type_names::held::{boxed, pushed};
+use c_words::fault::ParseFault;
+use c_words::word::Leaf;
 use sqlite_items::{Boxed, Items};
 use std::alloc::Global;
 

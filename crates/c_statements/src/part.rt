@@ -4,7 +4,7 @@ ghost use Rattle.std.specs.Prelude.{◌≡◌};
 ghost use Rattle.c_statements.specs.StatementReading as spec;
 
 use crate::local::begins_local;
-use c_grammar::word::Word;
+use c_words::word::Word;
 
 /// Whether a statement begins with the word.
 fn begins_stmt(word: Word) -> bool
@@ -35,6 +35,7 @@ fn begins_stmt(word: Word) -> bool
             | Word::Number
             | Word::Character
             | Word::LeftParen
+            | Word::SizeOf
     )
 }
 

@@ -3,9 +3,9 @@
 
 ghost use Rattle.std.specs.Prelude.{[], ◌∷◌, ◌++◌};
 ghost use Rattle.c_grammar.specs.declared.statement.BlockPart.TheVariants as b;
-ghost use Rattle.c_grammar.specs.declared.word.Word.TheVariants as w;
-ghost use Rattle.c_grammar.specs.Parsing.{Reads, and_then, pure, run_at};
-ghost use Rattle.c_grammar.specs.Follows.{Nests};
+ghost use Rattle.c_words.specs.declared.word.Word.TheVariants as w;
+ghost use Rattle.c_words.specs.Parsing.{Reads, and_then, pure, run_at};
+ghost use Rattle.c_words.specs.Follows.{Nests};
 ghost use Rattle.c_expressions.specs.ExpressionReading.{deep, inner_at};
 ghost use Rattle.c_type_names.specs.Held.{ReadsAfter};
 ghost use Rattle.c_statements.specs.StatementReading as spec;
@@ -16,12 +16,12 @@ use crate::local::{begins_local, local};
 use crate::made::{do_of, for_of, if_else_of, if_of, push_local, push_stmt, while_of};
 use crate::part::begins_part;
 use crate::value::{then_up_to, up_to};
-use c_expressions::expression::assign;
-use c_type_names::held::{boxed, then_expect};
-use c_grammar::cursor::{Cursor, same};
-use c_grammar::fault::ParseFault;
+use c_expressions::expression::whole_expression;
 use c_grammar::statement::{Block, BlockPart, ForFirst, Local, Stmt};
-use c_grammar::word::Word;
+use c_type_names::held::{boxed, then_expect};
+use c_words::cursor::{Cursor, same};
+use c_words::fault::ParseFault;
+use c_words::word::Word;
 use sqlite_items::{Boxed, Items};
 use std::alloc::Global;
 
@@ -101,7 +101,7 @@ impl<S: Fn(Global, &mut Cursor<'_>, usize) -> Result<Boxed<Stmt>, ParseFault>> S
     fn expression(&self, tokens: &mut Cursor<'_>) -> Result<Boxed<Stmt>, ParseFault>
         ensures { Reads (at_level spec.expression self.now.here self.now.inside tokens.old) result tokens.new }
     {
-        let value = assign(self.alloc, tokens, self.here)?;
+        let value = whole_expression(self.alloc, tokens, self.here)?;
         let (value, semicolon) = then_expect(value, tokens, Word::Semicolon)?;
         boxed(self.alloc, Stmt::Expression(value, semicolon))
     }
@@ -142,7 +142,7 @@ impl<S: Fn(Global, &mut Cursor<'_>, usize) -> Result<Boxed<Stmt>, ParseFault>> S
     {
         let first = tokens.expect(word)?;
         let opening = tokens.expect(Word::LeftParen)?;
-        let test = assign(self.alloc, tokens, self.inside)?;
+        let test = whole_expression(self.alloc, tokens, self.inside)?;
         let (test, closing) = then_expect(test, tokens, Word::RightParen)?;
         boxed(
             self.alloc,

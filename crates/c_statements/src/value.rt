@@ -1,16 +1,16 @@
 //! Values that may be left out.
 
-ghost use Rattle.c_grammar.specs.Parsing.{Reads};
+ghost use Rattle.c_words.specs.Parsing.{Reads};
 ghost use Rattle.c_expressions.specs.ExpressionReading.{inner_at};
 ghost use Rattle.c_type_names.specs.Held.{ReadsAfter};
 ghost use Rattle.c_statements.specs.StatementReading as spec;
 
-use c_expressions::expression::assign;
+use c_expressions::expression::whole_expression;
+use c_grammar::whole::Expression;
 use c_type_names::held::then_expect;
-use c_grammar::cursor::{Cursor, same};
-use c_grammar::expression::Assign;
-use c_grammar::fault::ParseFault;
-use c_grammar::word::{Leaf, Word};
+use c_words::cursor::{Cursor, same};
+use c_words::fault::ParseFault;
+use c_words::word::{Leaf, Word};
 use std::alloc::Global;
 
 /// A value before `stop`.
@@ -20,13 +20,13 @@ fn unless(
     tokens: &mut Cursor<'_>,
     stop: Word,
     depth: usize,
-) -> Result<Option<Assign>, ParseFault>
+) -> Result<Option<Expression>, ParseFault>
     ensures { Reads (spec.unless stop (inner_at depth).assign tokens.old) result tokens.new }
 {
     if same(stop, tokens.peek()) {
         return Ok(None);
     }
-    let value = assign(alloc, tokens, depth)?;
+    let value = whole_expression(alloc, tokens, depth)?;
     Ok(Some(value))
 }
 
@@ -37,7 +37,7 @@ pub fn up_to(
     tokens: &mut Cursor<'_>,
     stop: Word,
     depth: usize,
-) -> Result<(Option<Assign>, Leaf), ParseFault>
+) -> Result<(Option<Expression>, Leaf), ParseFault>
     ensures { Reads (spec.up_to stop (inner_at depth).assign tokens.old) result tokens.new }
 {
     let value = unless(alloc, tokens, stop, depth)?;
@@ -51,7 +51,7 @@ pub fn then_up_to<T: Drop>(
     tokens: &mut Cursor<'_>,
     stop: Word,
     depth: usize,
-) -> Result<(T, (Option<Assign>, Leaf)), ParseFault>
+) -> Result<(T, (Option<Expression>, Leaf)), ParseFault>
     ensures { ReadsAfter held (spec.up_to stop (inner_at depth).assign tokens.old) result tokens.new }
 {
     let found = up_to(alloc, tokens, stop, depth)?;

@@ -1,20 +1,20 @@
 -- Types: a parser gives a tree exactly where one stands.
 use Rattle.std.proofs.Common.{◌≡◌, ℕ, zero, suc, ◌-◌, ◌<◌, ◌≤◌, Bool, true, false, ◌||◌, List, [], ◌∷◌, ◌++◌, length, Option, Some, None, refl, sym, ap, subst, ◌∙◌, ⊎_elim, append_assoc, append-nil, arith}
-use Rattle.c_grammar.specs.declared.word.Word.{Word}
-use Rattle.c_grammar.specs.declared.word.Word.TheVariants as w
-use Rattle.c_grammar.specs.declared.word.Leaf.{Leaf}
+use Rattle.c_words.specs.declared.word.Word.{Word}
+use Rattle.c_words.specs.declared.word.Word.TheVariants as w
+use Rattle.c_words.specs.declared.word.Leaf.{Leaf}
 use Rattle.c_grammar.specs.declared.types.Integer.{Integer}
 use Rattle.c_grammar.specs.declared.types.Integer.TheVariants as i
 use Rattle.c_grammar.specs.declared.types.Specifier.{Specifier}
 use Rattle.c_grammar.specs.declared.types.Specifier.TheVariants as s
 use Rattle.c_grammar.specs.declared.types.Star.{Star}
-use Rattle.c_grammar.specs.Words.{same}
-use Rattle.c_grammar.specs.Written.{Written, nothing, ◌then◌, one, one_of, nested, optional, run, Takes}
+use Rattle.c_words.specs.Words.{same}
+use Rattle.c_words.specs.Written.{Written, nothing, ◌then◌, one, one_of, nested, optional, run, Takes}
 use Rattle.c_grammar.specs.Types.{integer, specifier, consts, base, star, stars_alone, stars_before, type_name}
-use Rattle.c_grammar.specs.Parsing.{Leaves, Outcome, ◌<$>◌, word_at, take_if, expect, optional_at}
-use Rattle.c_grammar.proofs.Taking.{Takes-nothing, nothing-Takes, Takes-then, then-Takes, Takes-nested, nested-Takes}
-use Rattle.c_grammar.proofs.Reading.{bind_ok, gives_bind, chosen, choose, refuse_test, same_pair, Sound, Complete, Ends, Starts, first_of_neither, second_of_neither, neither, take_if-takes, take_if-gives, finish, at_one, word_is, optional_at-takes, optional_at-gives}
-use Rattle.c_grammar.proofs.Runs.{tokens-Sound, tokens-Complete}
+use Rattle.c_words.specs.Parsing.{Leaves, Outcome, ◌<$>◌, word_at, take_if, expect, optional_at}
+use Rattle.c_words.proofs.Taking.{Takes-nothing, nothing-Takes, Takes-then, then-Takes, Takes-nested, nested-Takes}
+use Rattle.c_words.proofs.Reading.{bind_ok, gives_bind, chosen, choose, refuse_test, same_pair, Sound, Complete, Ends, Starts, first_of_neither, second_of_neither, neither, take_if-takes, take_if-gives, finish, at_one, word_is, optional_at-takes, optional_at-gives}
+use Rattle.c_words.proofs.Runs.{tokens-Sound, tokens-Complete}
 use Rattle.c_type_names.specs.TypeReading as read
 use Rattle.c_type_names.specs.TypeReading.{stars_from, begins_integer, begins_type, goes_on_integer, goes_on_base, goes_on_type}
 

@@ -1,8 +1,8 @@
 -- Reading of types.
 use Rattle.std.specs.Prelude.{ℕ, zero, suc, Bool, true, false, if◌then◌else◌, List, [], ◌∷◌, ◌++◌, Some, None}
-use Rattle.c_grammar.specs.declared.word.Word.{Word}
-use Rattle.c_grammar.specs.declared.word.Word.TheVariants as w
-use Rattle.c_grammar.specs.declared.word.Leaf.{Leaf}
+use Rattle.c_words.specs.declared.word.Word.{Word}
+use Rattle.c_words.specs.declared.word.Word.TheVariants as w
+use Rattle.c_words.specs.declared.word.Leaf.{Leaf}
 use Rattle.c_grammar.specs.declared.types.Integer.{Integer}
 use Rattle.c_grammar.specs.declared.types.Integer.TheVariants as i
 use Rattle.c_grammar.specs.declared.types.Specifier.{Specifier}
@@ -10,8 +10,8 @@ use Rattle.c_grammar.specs.declared.types.Specifier.TheVariants as s
 use Rattle.c_grammar.specs.declared.types.Base.{Base}
 use Rattle.c_grammar.specs.declared.types.Star.{Star}
 use Rattle.c_grammar.specs.declared.types.TypeName.{TypeName}
-use Rattle.c_grammar.specs.Words.{same}
-use Rattle.c_grammar.specs.Parsing.{Parser, ◌>>=◌, ◌<$>◌, pure, refuse, peek, expect, optional_at, run_at}
+use Rattle.c_words.specs.Words.{same}
+use Rattle.c_words.specs.Parsing.{Parser, ◌>>=◌, ◌<$>◌, pure, refuse, peek, expect, optional_at, run_at}
 
 -- after `signed`
 abbrev pub signed_by : Leaf → Word → Parser Integer

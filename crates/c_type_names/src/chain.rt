@@ -2,15 +2,15 @@
 
 ghost use Rattle.std.specs.Prelude.{◌≡◌, Bool, [], length};
 ghost use Rattle.std.specs.Result.{result_map_both};
-ghost use Rattle.c_grammar.specs.declared.word.Word.{Word as WordValue};
-ghost use Rattle.c_grammar.specs.Operators.{has, continues};
-ghost use Rattle.c_grammar.specs.Parsing.{Parser, Reads, and_then, pure, links_from, chain_by, run_at};
+ghost use Rattle.c_words.specs.declared.word.Word.{Word as WordValue};
+ghost use Rattle.c_words.specs.Operators.{has, continues};
+ghost use Rattle.c_words.specs.Parsing.{Parser, Reads, and_then, pure, links_from, chain_by, run_at};
 
-use c_grammar::chain::{Chain, Link, push};
-use c_grammar::cursor::Cursor;
-use c_grammar::fault::ParseFault;
-use c_grammar::operators::Operators;
-use c_grammar::word::Word;
+use c_words::chain::{Chain, Link, push};
+use c_words::cursor::Cursor;
+use c_words::fault::ParseFault;
+use c_words::operators::Operators;
+use c_words::word::Word;
 use sqlite_items::Items;
 use std::alloc::Global;
 
@@ -81,7 +81,7 @@ fn linked<T: Drop, P: Operand<T>>(
 }
 
 /// A first operand, and more of them after operators.
-#[tactic(auto, unfolding(c_grammar::specs::Parsing::chain_by))]
+#[tactic(auto, unfolding(c_words::specs::Parsing::chain_by))]
 pub fn chain<T: Drop, P: Operand<T>>(
     alloc: Global,
     tokens: &mut Cursor<'_>,

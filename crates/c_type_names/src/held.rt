@@ -1,17 +1,17 @@
 //! Steps of a reader that hold what was read before. They are generic, so that no caller lets a tree go.
 
 ghost use Rattle.std.specs.Prelude.{◌≡◌, [], ◌∷◌, ◌++◌};
-ghost use Rattle.c_grammar.specs.Operators.{has};
-ghost use Rattle.c_grammar.specs.Parsing.{Reads, pure, take_if, expect, optional_at};
+ghost use Rattle.c_words.specs.Operators.{has};
+ghost use Rattle.c_words.specs.Parsing.{Reads, pure, take_if, expect, optional_at};
 ghost use Rattle.c_type_names.specs.TypeReading as types;
 ghost use Rattle.c_type_names.specs.Held.{ReadsAfter, pure_unless};
 
 use crate::types::{base, stars};
-use c_grammar::cursor::Cursor;
-use c_grammar::fault::ParseFault;
-use c_grammar::operators::Operators;
 use c_grammar::types::{Base, Star};
-use c_grammar::word::{Leaf, Word};
+use c_words::cursor::Cursor;
+use c_words::fault::ParseFault;
+use c_words::operators::Operators;
+use c_words::word::{Leaf, Word};
 use sqlite_items::{Boxed, Items};
 use std::alloc::Global;
 

@@ -1,16 +1,16 @@
 //! Types.
 
 ghost use Rattle.std.specs.Prelude.{◌≡◌, []};
-ghost use Rattle.c_grammar.specs.declared.word.Word.TheVariants as w;
-ghost use Rattle.c_grammar.specs.Words.{same as same_word};
-ghost use Rattle.c_grammar.specs.Parsing.{Reads, expect};
+ghost use Rattle.c_words.specs.declared.word.Word.TheVariants as w;
+ghost use Rattle.c_words.specs.Words.{same as same_word};
+ghost use Rattle.c_words.specs.Parsing.{Reads, expect};
 ghost use Rattle.c_type_names.specs.TypeReading as spec;
 
 use crate::chain::{Part, run};
-use c_grammar::cursor::{Cursor, same};
-use c_grammar::fault::ParseFault;
 use c_grammar::types::{Base, Integer, Specifier, Star, TypeName};
-use c_grammar::word::{Leaf, Word};
+use c_words::cursor::{Cursor, same};
+use c_words::fault::ParseFault;
+use c_words::word::{Leaf, Word};
 use sqlite_items::Items;
 use std::alloc::Global;
 

@@ -2,9 +2,9 @@
 use c_grammar::expression::{Assign, Choice, Sum};
 use c_grammar::program::{Body, Item};
 use c_grammar::statement::{BlockPart, Stmt};
-use c_grammar::word::Word;
 use c_lexer::{Place, lex};
 use c_parser::{Mode, ParseFault, ProgramTree, parse_program};
+use c_words::word::Word;
 use std::test::Fail;
 
 fn parse(
@@ -103,7 +103,7 @@ const ITEMS: [(&str, &str); 56] = [
 ];
 
 /// Bodies of `main`, and where they are refused; a body begins in column 18.
-const BODIES: [(&str, &str); 64] = [
+const BODIES: [(&str, &str); 91] = [
     ("return 0", "1:27"),
     ("return 0;", "ok"),
     ("return;", "ok"),
@@ -120,7 +120,17 @@ const BODIES: [(&str, &str); 64] = [
     ("/*@ ghost x */ /*@ assert x */", "ok"),
     ("goto x;", "1:18"),
     ("switch (x) {}", "1:18"),
-    ("sizeof x;", "1:18"),
+    ("sizeof x;", "ok"),
+    ("sizeof (x)[0];", "ok"),
+    ("sizeof (int);", "ok"),
+    ("sizeof (int **) + 1;", "ok"),
+    ("sizeof sizeof (int);", "ok"),
+    ("sizeof -(int) x;", "ok"),
+    ("sizeof ((int) x);", "ok"),
+    ("sizeof (int) x;", "1:31"),
+    ("sizeof (int)[0];", "1:30"),
+    ("sizeof;", "1:24"),
+    ("sizeof ();", "1:26"),
     ("x: ;", "1:19"),
     ("1, 2;", "1:19"),
     ("(const int) x;", "1:19"),
@@ -171,6 +181,24 @@ const BODIES: [(&str, &str); 64] = [
     ("for (i = 0; i; ) continue;", "ok"),
     ("for (int i) ;", "1:28"),
     ("for (a, b;;) ;", "1:24"),
+    ("return sizeof(int);", "ok"),
+    ("return sizeof (struct s *);", "ok"),
+    ("return sizeof (void);", "ok"),
+    ("return sizeof x;", "ok"),
+    ("return sizeof (x);", "ok"),
+    ("return sizeof (x)[0];", "ok"),
+    ("return sizeof -x;", "ok"),
+    ("return sizeof sizeof x;", "ok"),
+    ("return sizeof (int) * 2;", "ok"),
+    ("return 2 * sizeof(int);", "ok"),
+    ("return (int) sizeof (int);", "ok"),
+    ("return sizeof;", "1:31"),
+    ("return sizeof = 1;", "1:32"),
+    ("return sizeof (int x);", "1:37"),
+    // After a type in parentheses the operand has ended: it is no cast.
+    ("return sizeof (int)[0];", "1:37"),
+    ("return sizeof (int){0};", "1:37"),
+    ("return sizeof (int) x;", "1:38"),
 ];
 
 /// Fails where the text isn't read or refused as expected.
@@ -244,10 +272,27 @@ type Nest = (
     usize,
 );
 
-const NESTS: [Nest; 24] = [
+const NESTS: [Nest; 27] = [
     ("int main(void) { return ", "(", "0", ")", "; }", 1),
     ("int main(void) { return ", "- ", "0", "", "; }", 1),
     ("int main(void) { return ", "(int) ", "0", "", "; }", 1),
+    ("int main(void) { return ", "sizeof ", "0", "", "; }", 1),
+    (
+        "int main(void) { return ",
+        "(",
+        "sizeof (int)",
+        ")",
+        "; }",
+        2,
+    ),
+    (
+        "int main(void) { return sizeof (int ",
+        "*",
+        "",
+        "",
+        "); }",
+        1,
+    ),
     ("int main(void) { return ", "f(", "0", ")", "; }", 1),
     ("int main(void) { return ", "0 + f(1, ", "0", ")", "; }", 1),
     ("int main(void) { return ", "a[", "0", "]", "; }", 1),
@@ -326,7 +371,7 @@ fn nests_calls_in_loops_in_a_woven_text(rt: HostRuntime) -> Result<(), Fail> {
 }
 
 /// Where a source that nests too deep is refused: what is repeated how often, and the place.
-const TOO_DEEP: [(&str, &str, &str, &str, &str, usize, &str); 15] = [
+const TOO_DEEP: [(&str, &str, &str, &str, &str, usize, &str); 16] = [
     // The last parenthesis itself, since its inside can't be empty.
     ("int main(void) { return ", "(", "0", ")", "; }", 64, "1:88"),
     (
@@ -340,6 +385,15 @@ const TOO_DEEP: [(&str, &str, &str, &str, &str, usize, &str); 15] = [
     ),
     ("int main(void) { ", "(", "", "", "", 200_000, "1:81"),
     ("int main(void) { ", "!", "0", "", "; }", 64, "1:81"),
+    (
+        "int main(void) { return ",
+        "sizeof ",
+        "0",
+        "",
+        "; }",
+        64,
+        "1:466",
+    ),
     // The inside of a call and of a block may be empty: the token after.
     ("int main(void) { ", "f(", "0", ")", "; }", 64, "1:146"),
     ("int main(void) { ", "f(", "", ")", "; }", 64, "ok"),
@@ -421,7 +475,7 @@ fn has_chain(value: &Assign) -> bool {
 
 fn is_chain(parts: &[BlockPart]) -> bool {
     match parts {
-        [BlockPart::Stmt(Stmt::Expression(value, _))] => has_chain(value),
+        [BlockPart::Stmt(Stmt::Expression(value, _))] => has_chain(value.get()),
         _ => false,
     }
 }

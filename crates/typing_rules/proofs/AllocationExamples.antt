@@ -1,6 +1,6 @@
 -- Examples of the rules on `malloc`, `free` and `sizeof` (C11 6.5.3.4, 7.22.3.3, 7.22.3.4): each text breaks the rule with this number, at this column, or none.
 use Rattle.std.proofs.Common.{◌≡◌, refl, List, [], ◌∷◌, codes, Some, None}
-use Rattle.c_grammar.specs.declared.word.Word.TheVariants as w
+use Rattle.c_words.specs.declared.word.Word.TheVariants as w
 use Rattle.typing_rules.specs.Syntax.{Name, Number, Paren, Call, Index, Arrow, Prefix, Cast, SizeOf, SizeOfType, Binary, Assign, NoMore, Then, PointerTo, ArrayOf, Value, Evaluate, Declare, Return, End, Next, Struct, Variables, Function}
 use Rattle.typing_rules.proofs.ExampleTexts.{name, number, word, mark, int, char, long, void, struct, spelled, declarator, declared, parameter, local, members, Row, row, outcomes, refusals}
 use Rattle.typing_rules.specs.Checked as checked_rules

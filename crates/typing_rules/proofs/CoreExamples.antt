@@ -1,8 +1,8 @@
 -- Examples of texts with the cores that they stand for.
 use Rattle.std.proofs.Common.{◌≡◌, refl, ℕ, pos, List, [], ◌∷◌, codes, Option, Some, None, Ok}
 use Rattle.c_lexer.specs.declared.token.IntSuffix.TheVariants as suffix
-use Rattle.c_grammar.specs.declared.word.Word.TheVariants as w
-use Rattle.c_grammar.specs.declared.word.Mode.TheVariants as mode
+use Rattle.c_words.specs.declared.word.Word.TheVariants as w
+use Rattle.c_words.specs.declared.word.Mode.TheVariants as mode
 use Rattle.step_meaning.specs.declared.value.IntKind.TheVariants as kind
 use Rattle.step_meaning.specs.declared.value.CType.{CType, end_of-CType, more_of-CType}
 use Rattle.step_meaning.specs.declared.value.CType.TheVariants as type

@@ -1,8 +1,8 @@
 -- What each alternative of declarators, initialisers and sizes says, as one equation each.
 use Rattle.std.proofs.Common.{◌≡◌, List, [], ◌∷◌, ◌++◌, Option, refl, sym, ap, map, ◌∙◌}
-use Rattle.c_grammar.specs.declared.word.Leaf.{Leaf}
-use Rattle.c_grammar.specs.declared.chain.Chain.{Chain}
-use Rattle.c_grammar.specs.declared.chain.Link.{Link}
+use Rattle.c_words.specs.declared.word.Leaf.{Leaf}
+use Rattle.c_words.specs.declared.chain.Chain.{Chain}
+use Rattle.c_words.specs.declared.chain.Link.{Link}
 use Rattle.c_grammar.specs.declared.expression.Assign.{Assign}
 use Rattle.c_grammar.specs.declared.expression.Choice.{Choice}
 use Rattle.c_grammar.specs.declared.declaration.Declarator.{Declarator, fold-roll-Declarator, out-Declarator, roll-out-Declarator}

@@ -5,10 +5,10 @@ use Rattle.c_lexer.specs.declared.token.TokenKind.{TokenKind}
 use Rattle.c_lexer.specs.declared.token.TokenKind.TheVariants as token
 use Rattle.c_lexer.specs.declared.token.IntSuffix.{IntSuffix}
 use Rattle.c_lexer.specs.declared.token.IntSuffix.TheVariants as suffix
-use Rattle.c_grammar.specs.declared.word.Leaf.{Leaf}
-use Rattle.c_grammar.specs.declared.word.Word.{Word}
-use Rattle.c_grammar.specs.declared.word.Word.TheVariants as w
-use Rattle.c_grammar.specs.declared.word.Mode.TheVariants as mode
+use Rattle.c_words.specs.declared.word.Leaf.{Leaf}
+use Rattle.c_words.specs.declared.word.Word.{Word}
+use Rattle.c_words.specs.declared.word.Word.TheVariants as w
+use Rattle.c_words.specs.declared.word.Mode.TheVariants as mode
 use Rattle.c_grammar.specs.declared.types.Integer.TheVariants as i
 use Rattle.c_grammar.specs.declared.types.Specifier.{Specifier}
 use Rattle.c_grammar.specs.declared.types.Specifier.TheVariants as s

@@ -1,8 +1,8 @@
 -- What each alternative of an expression says, as one equation each.
 use Rattle.std.proofs.Common.{◌≡◌, List, [], ◌∷◌, Some, None, refl, sym, ap, map, ◌∙◌}
-use Rattle.c_grammar.specs.declared.word.Leaf.{Leaf}
-use Rattle.c_grammar.specs.declared.chain.Chain.{Chain}
-use Rattle.c_grammar.specs.declared.chain.Link.{Link}
+use Rattle.c_words.specs.declared.word.Leaf.{Leaf}
+use Rattle.c_words.specs.declared.chain.Chain.{Chain}
+use Rattle.c_words.specs.declared.chain.Link.{Link}
 use Rattle.c_grammar.specs.declared.types.TypeName.{TypeName}
 use Rattle.c_grammar.specs.declared.expression.Assign.{Assign, fold-roll-Assign}
 use Rattle.c_grammar.specs.declared.expression.Choice.{Choice, fold-roll-Choice}

@@ -1,6 +1,6 @@
 -- Examples of the limit of 16,777,216 cells on all variables of file scope together: 256 variables of 65,536 cells have as many, and one more is too much. The fault has no place.
 use Rattle.std.proofs.Common.{◌≡◌, refl, ℕ, zero, suc, ◌*◌, true, false, List, [], ◌∷◌, codes}
-use Rattle.c_grammar.specs.declared.word.Mode.TheVariants as mode
+use Rattle.c_words.specs.declared.word.Mode.TheVariants as mode
 use Rattle.step_meaning.specs.declared.value.CType.{CType, end_of-CType, more_of-CType}
 use Rattle.step_meaning.specs.declared.value.CType.TheVariants as type
 use Rattle.step_meaning.specs.declared.value.IntKind.TheVariants as kind

@@ -1,7 +1,7 @@
 -- Examples of the rules on initialisers (C11 6.6, 6.7.9): each text breaks the rule with this number, at this column, or none.
 use Rattle.std.proofs.Common.{◌≡◌, refl, List, [], ◌∷◌, codes, Some, None}
 use Rattle.c_lexer.specs.declared.token.IntSuffix.TheVariants as suffix
-use Rattle.c_grammar.specs.declared.word.Word.TheVariants as w
+use Rattle.c_words.specs.declared.word.Word.TheVariants as w
 use Rattle.typing_rules.specs.Syntax.{Name, Number, Character, Paren, Call, Index, Member, Prefix, Cast, Binary, Choose, Assign, NoMore, PointerTo, ArrayUnsized, ArrayOf, Value, Braces, NoElement, Element, Evaluate, Declare, Return, End, Next, Struct, Variables, Function}
 use Rattle.typing_rules.proofs.ExampleTexts.{name, number, suffixed, character, word, mark, int, char, long, void, struct, spelled, declarator, declared, local, members, Row, row, outcomes, refusals}
 use Rattle.typing_rules.specs.Checked as checked_rules

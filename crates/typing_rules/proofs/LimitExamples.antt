@@ -1,6 +1,6 @@
 -- Examples of the limits on a full expression and on a whole source.
 use Rattle.std.proofs.Common.{◌≡◌, refl, ℕ, zero, suc, List, [], ◌∷◌, codes, Some, None}
-use Rattle.c_grammar.specs.declared.word.Word.TheVariants as w
+use Rattle.c_words.specs.declared.word.Word.TheVariants as w
 use Rattle.typing_rules.specs.Syntax.{Expression, Number, Prefix, Binary, ArrayOf, Value, Braces, NoElement, Element, Statement, Nothing, Block, Declare, For, NoFirst, Continue, Return, Statements, End, Next, Item, Function}
 use Rattle.typing_rules.proofs.ExampleTexts.{name, number, word, mark, int, spelled, declared, local, Row, row, outcomes, refusals}
 use Rattle.typing_rules.specs.Checked as checked_rules

@@ -1,6 +1,6 @@
 -- Examples of the rules on names (C11 6.2.1, 6.5.1, 6.7): each text breaks the rule with this number, at this column, or none.
 use Rattle.std.proofs.Common.{◌≡◌, refl, List, [], ◌∷◌, codes, Some, None}
-use Rattle.c_grammar.specs.declared.word.Word.TheVariants as w
+use Rattle.c_words.specs.declared.word.Word.TheVariants as w
 use Rattle.typing_rules.specs.Syntax.{Name, Number, Call, Member, Arrow, Increment, Prefix, Cast, Binary, Assign, NoMore, Then, PointerTo, ArrayOf, Value, FirstLocal, Nothing, Evaluate, Block, Declare, For, Return, End, Next, Struct, Variables, Function}
 use Rattle.typing_rules.proofs.ExampleTexts.{name, number, word, mark, int, long, unsigned_long, void, struct, spelled, declarator, declared, parameter, local, members, Row, row, outcomes, refusals}
 use Rattle.typing_rules.specs.Checked as checked_rules

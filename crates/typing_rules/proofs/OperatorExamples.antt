@@ -1,7 +1,7 @@
 -- Examples of the rules on operators (C11 6.5.3 to 6.5.15): each text breaks the rule with this number, at this column, or none.
 use Rattle.std.proofs.Common.{◌≡◌, refl, List, [], ◌∷◌, codes, Some, None}
 use Rattle.c_lexer.specs.declared.token.IntSuffix.TheVariants as suffix
-use Rattle.c_grammar.specs.declared.word.Word.TheVariants as w
+use Rattle.c_words.specs.declared.word.Word.TheVariants as w
 use Rattle.typing_rules.specs.Syntax.{Name, Number, Paren, Call, Index, Member, Arrow, Prefix, Cast, Binary, Choose, Assign, NoMore, PointerTo, ArrayOf, NoFirst, Nothing, Evaluate, If, While, Do, For, Break, Return, End, Next, Struct, Variables, Function}
 use Rattle.typing_rules.proofs.ExampleTexts.{name, number, suffixed, word, mark, int, char, void, struct, spelled, declarator, declared, members, Row, row, outcomes, refusals}
 use Rattle.typing_rules.specs.Checked as checked_rules

@@ -1,7 +1,7 @@
 -- What each alternative of a statement says, as one equation each.
 use Rattle.std.proofs.Common.{◌≡◌, Option, sym, ap, map, ◌∙◌}
 use Rattle.std.specs.Prelude.{option_map}
-use Rattle.c_grammar.specs.declared.word.Leaf.{Leaf}
+use Rattle.c_words.specs.declared.word.Leaf.{Leaf}
 use Rattle.c_grammar.specs.declared.expression.Assign.{Assign}
 use Rattle.c_grammar.specs.declared.statement.Local.{Local}
 use Rattle.c_grammar.specs.declared.statement.ForFirst.{ForFirst}

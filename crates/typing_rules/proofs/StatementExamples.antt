@@ -1,6 +1,6 @@
 -- Examples of the rules on statements (C11 6.8): each text breaks the rule with this number, at this column, or none.
 use Rattle.std.proofs.Common.{◌≡◌, refl, List, [], ◌∷◌, codes, Some, None}
-use Rattle.c_grammar.specs.declared.word.Word.TheVariants as w
+use Rattle.c_words.specs.declared.word.Word.TheVariants as w
 use Rattle.typing_rules.specs.Syntax.{Name, Number, Call, Cast, Binary, Assign, NoMore, PointerTo, ArrayOf, Value, Braces, NoElement, Element, NoFirst, FirstValue, Nothing, Evaluate, Block, Declare, If, IfElse, While, Do, For, Break, Continue, Return, End, Next, Struct, Variables, Function}
 use Rattle.typing_rules.proofs.ExampleTexts.{name, number, word, mark, int, void, spelled, declarator, declared, parameter, local, members, Row, row, outcomes, refusals}
 use Rattle.typing_rules.specs.Checked as checked_rules

@@ -1,6 +1,6 @@
 -- Worked rows of the typing rules: each text breaks the rule with this number, at this column.
 use Rattle.std.proofs.Common.{◌≡◌, refl, List, [], ◌∷◌, codes, Some, None}
-use Rattle.c_grammar.specs.declared.word.Word.TheVariants as w
+use Rattle.c_words.specs.declared.word.Word.TheVariants as w
 use Rattle.typing_rules.specs.Syntax.{Name, Number, Call, Prefix, Cast, SizeOf, SizeOfType, Assign, NoMore, Then, PointerTo, ArrayOf, Value, Braces, NoElement, Element, Evaluate, Declare, Break, Return, End, Next, Struct, Variables, Function}
 use Rattle.typing_rules.proofs.ExampleTexts.{name, number, word, mark, int, struct, spelled, declarator, declared, parameter, local, members, Row, row, outcomes, refusals}
 use Rattle.typing_rules.specs.Checked as checked_rules

@@ -1,7 +1,7 @@
 -- A chain of operators, from the left: how the operand that was found before a link goes on (C11 6.5.5 to 6.5.14).
 use Rattle.std.specs.Prelude.{List, [], ◌∷◌, Ok}
-use Rattle.c_grammar.specs.declared.chain.Link.{Link}
-use Rattle.c_grammar.specs.declared.word.Leaf.{Leaf}
+use Rattle.c_words.specs.declared.chain.Link.{Link}
+use Rattle.c_words.specs.declared.word.Leaf.{Leaf}
 use Rattle.typing_rules.specs.declared.operand.Operand.{Operand}
 use Rattle.typing_rules.specs.declared.operand.Value.{Value}
 use Rattle.typing_rules.specs.Checked.{Checked, ◌>>=◌}

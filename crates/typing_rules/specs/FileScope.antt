@@ -1,8 +1,8 @@
 -- A program up to some item, and its variables of file scope (C11 6.9.2).
 use Rattle.std.specs.Prelude.{ℕ, suc, Bool, false, ◌||◌, not, List, [], ◌∷◌, ◌++◌, map, codes, Option, Some, None, is_some, Ok}
 use Rattle.std.specs.Str.{bytes_eq}
-use Rattle.c_grammar.specs.declared.word.Mode.{Mode}
-use Rattle.c_grammar.specs.declared.word.Leaf.{Leaf}
+use Rattle.c_words.specs.declared.word.Mode.{Mode}
+use Rattle.c_words.specs.declared.word.Leaf.{Leaf}
 use Rattle.step_meaning.specs.declared.value.CType.{CType}
 use Rattle.step_meaning.specs.declared.value.Value.{Value}
 use Rattle.step_meaning.specs.declared.value.NameKind.TheVariants as names

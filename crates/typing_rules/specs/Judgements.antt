@@ -1,8 +1,8 @@
 -- Judgements on types: what an operator does with operands of these types, or nothing where a rule on types is broken (C11 6.5). Nothing is built here.
 -- `null` says of an operand that it is a null pointer constant, and `same` that both operands have the same type.
 use Rattle.std.specs.Prelude.{Bool, true, false, ◌&&◌, if◌then◌else◌, Option, Some, None}
-use Rattle.c_grammar.specs.declared.word.Word.{Word}
-use Rattle.c_grammar.specs.declared.word.Word.TheVariants as w
+use Rattle.c_words.specs.declared.word.Word.{Word}
+use Rattle.c_words.specs.declared.word.Word.TheVariants as w
 use Rattle.step_meaning.specs.declared.value.IntKind.{IntKind}
 use Rattle.step_meaning.specs.declared.value.CType.{CType, end_of-CType, more_of-CType}
 use Rattle.step_meaning.specs.declared.value.CType.TheVariants as type

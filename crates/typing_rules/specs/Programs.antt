@@ -1,10 +1,10 @@
 -- Programs (C11 6.9): the items in text order, then what is asked of the whole text.
 use Rattle.std.specs.Prelude.{ℕ, ◌+◌, Bool, false, ◌&&◌, not, nat_le, if◌then◌else◌, List, [], ◌∷◌, length, sum_by, codes, Option, Some, None, Ok}
 use Rattle.c_lexer.specs.declared.token.Place.{Place}
-use Rattle.c_grammar.specs.declared.word.Mode.{Mode}
-use Rattle.c_grammar.specs.declared.word.Mode.TheVariants as mode
+use Rattle.c_words.specs.declared.word.Mode.{Mode}
+use Rattle.c_words.specs.declared.word.Mode.TheVariants as mode
 use Rattle.c_grammar.specs.declared.program.ProgramTree.{ProgramTree}
-use Rattle.c_grammar.specs.Words as words
+use Rattle.c_words.specs.Words as words
 use Rattle.step_meaning.specs.declared.value.CType.{CType}
 use Rattle.step_meaning.specs.declared.value.CType.TheVariants as type
 use Rattle.step_meaning.specs.declared.program.Declared.{Declared as Named}

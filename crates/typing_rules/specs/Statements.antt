@@ -1,6 +1,6 @@
 -- Statements (C11 6.8): declarations and statements in text order, each seeing the names that were declared before it.
 use Rattle.std.specs.Prelude.{ℕ, suc, Bool, true, false, not, if◌then◌else◌, List, [], ◌∷◌, ◌++◌, length, Option, Some, None, is_some, Ok}
-use Rattle.c_grammar.specs.declared.word.Leaf.{Leaf}
+use Rattle.c_words.specs.declared.word.Leaf.{Leaf}
 use Rattle.step_meaning.specs.declared.value.CType.{CType}
 use Rattle.step_meaning.specs.declared.value.NameKind.TheVariants as names
 use Rattle.step_meaning.specs.declared.expr.Variable.{Variable}

@@ -2,7 +2,7 @@
 use Rattle.std.specs.Prelude.{ℕ, Bool, false, not, nat_le, List, [], ◌∷◌, ◌++◌, sum_by, Ok}
 use Rattle.std.specs.List.{list_any}
 use Rattle.std.specs.Str.{bytes_eq}
-use Rattle.c_grammar.specs.declared.word.Leaf.{Leaf}
+use Rattle.c_words.specs.declared.word.Leaf.{Leaf}
 use Rattle.step_meaning.specs.declared.value.CType.{CType}
 use Rattle.step_meaning.specs.declared.program.Declared.{Declared as Named}
 use Rattle.step_meaning.specs.TypeRules.{cells, most_cells}

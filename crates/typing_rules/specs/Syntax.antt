@@ -1,7 +1,7 @@
 -- Abstract syntax: what a concrete tree says when its levels, commas, semicolons and `const` are left out (C11 6.5 to 6.9). A chain is folded from the left.
 -- All rules of the language are stated on abstract syntax. Parentheses are kept, since an expression begins with its first token. A leaf stands for its token.
 use Rattle.std.specs.Prelude.{ℕ, List, Option}
-use Rattle.c_grammar.specs.declared.word.Leaf.{Leaf}
+use Rattle.c_words.specs.declared.word.Leaf.{Leaf}
 use Rattle.c_grammar.specs.declared.types.Specifier.{Specifier}
 
 -- ---- expressions

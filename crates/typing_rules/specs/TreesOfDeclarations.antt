@@ -1,8 +1,8 @@
 -- The abstract syntax of declarators, initialisers, statements and programs.
 use Rattle.std.specs.Prelude.{List, [], ◌∷◌, ◌++◌, map, length, replicate, Option, Some, None, option_map}
-use Rattle.c_grammar.specs.declared.word.Leaf.{Leaf}
-use Rattle.c_grammar.specs.declared.chain.Chain.{Chain}
-use Rattle.c_grammar.specs.declared.chain.Link.{Link}
+use Rattle.c_words.specs.declared.word.Leaf.{Leaf}
+use Rattle.c_words.specs.declared.chain.Chain.{Chain}
+use Rattle.c_words.specs.declared.chain.Link.{Link}
 use Rattle.c_grammar.specs.declared.types.Integer.{Integer}
 use Rattle.c_grammar.specs.declared.types.Integer.TheVariants as i
 use Rattle.c_grammar.specs.declared.types.Specifier.{Specifier}

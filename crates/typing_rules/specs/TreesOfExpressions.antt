@@ -1,7 +1,7 @@
 -- The abstract syntax of the concrete trees of expressions (C11 6.5).
 use Rattle.std.specs.Prelude.{List, [], ◌∷◌, length, Option, Some, None}
-use Rattle.c_grammar.specs.declared.chain.Chain.{Chain}
-use Rattle.c_grammar.specs.declared.chain.Link.{Link}
+use Rattle.c_words.specs.declared.chain.Chain.{Chain}
+use Rattle.c_words.specs.declared.chain.Link.{Link}
 use Rattle.c_grammar.specs.declared.types.TypeName.{TypeName}
 use Rattle.c_grammar.specs.declared.expression.Assign.TheOpen.{Assign-F, Choice-F, Primary-F, Suffix-F, Unary-F, And-F, BitAnd-F, BitOr-F, BitXor-F, Equal-F, Or-F, Postfix-F, Product-F, Relation-F, Shift-F, Sum-F}
 use Rattle.c_grammar.specs.declared.expression.Assign.{Assign, fold-Assign}

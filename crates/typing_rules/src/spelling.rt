@@ -7,7 +7,7 @@ ghost use Rattle.typing_rules.specs.Expressions as expressions;
 
 use crate::judgement::Operator;
 use c_grammar::types::Integer;
-use c_grammar::word::Word;
+use c_words::word::Word;
 use c_lexer::ConstantType;
 use step_meaning::{CompareOp, IntKind, IntOp};
 

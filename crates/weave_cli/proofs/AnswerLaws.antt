@@ -8,7 +8,7 @@ use Rattle.c_lexer.specs.declared.token.Token.{Token}
 use Rattle.c_lexer.specs.FirstForm.Tokens.{AreTokensOf}
 use Rattle.c_lexer.proofs.FirstForm.TokenLaws.{one_token_list}
 use Rattle.c_parser.specs.declared.first_form.tree.FirstTree.{FirstTree}
-use Rattle.c_grammar.specs.declared.word.Mode.TheVariants as mode
+use Rattle.c_words.specs.declared.word.Mode.TheVariants as mode
 use Rattle.c_parser.specs.FirstForm.Program.{Program}
 use Rattle.c_parser.specs.FirstForm.Texts.{Spells}
 use Rattle.weave_cli.specs.Answers.{IsFirstProgram}

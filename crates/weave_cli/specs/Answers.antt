@@ -4,7 +4,7 @@ use Rattle.weave_base.specs.declared.status.Status.{Status}
 use Rattle.weave_base.specs.declared.status.Status.TheVariants as status
 use Rattle.weave_base.specs.Causes.{Rose}
 use Rattle.weave_base.specs.Contents.{File, bytes_of}
-use Rattle.c_grammar.specs.declared.word.Mode.TheVariants as mode
+use Rattle.c_words.specs.declared.word.Mode.TheVariants as mode
 use Rattle.c_parser.specs.FirstForm.Program.{Program}
 use Rattle.c_parser.specs.FirstForm.Texts.{IsTextOf}
 use Rattle.weave_cli.specs.FirstForm.Task.{IsWeavingOf}

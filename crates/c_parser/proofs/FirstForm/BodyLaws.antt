@@ -2,7 +2,7 @@
 use Rattle.std.proofs.Common.{◌≡◌, ℕ, ◌+◌, ◌≤◌, true, false, List, [], ◌∷◌, ◌++◌, length, Some, refl, sym, ap, subst, arith}
 use Rattle.std.specs.List.{AllByRecursion, flat_map}
 use Rattle.c_parser.specs.declared.first_form.fixed.Fixed.TheVariants as fixed
-use Rattle.c_grammar.specs.declared.word.Mode.{Mode}
+use Rattle.c_words.specs.declared.word.Mode.{Mode}
 use Rattle.c_parser.specs.declared.first_form.tree.FirstStmt.{FirstStmt}
 use Rattle.c_parser.specs.FirstForm.Spelling.{Word, statement_words, declaration_words}
 use Rattle.c_parser.specs.FirstForm.Texts.{StatementFits}

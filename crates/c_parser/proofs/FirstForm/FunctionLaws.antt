@@ -3,7 +3,7 @@ use Rattle.std.proofs.Common.{◌≡◌, ℕ, ◌+◌, true, false, List, [], �
 use Rattle.std.specs.Prelude.{codes}
 use Rattle.std.specs.List.{AllByRecursion, flat_map}
 use Rattle.c_parser.specs.declared.first_form.fixed.Fixed.TheVariants as fixed
-use Rattle.c_grammar.specs.declared.word.Mode.{Mode}
+use Rattle.c_words.specs.declared.word.Mode.{Mode}
 use Rattle.c_parser.specs.FirstForm.Program.{Function}
 use Rattle.c_parser.specs.FirstForm.Spelling.{Word, names_of, statement_words, function_words, main_words, named, keyword, mark, number as number_word}
 use Rattle.c_parser.specs.FirstForm.Texts.{StatementFits}

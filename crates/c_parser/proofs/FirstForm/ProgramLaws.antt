@@ -6,8 +6,8 @@ use Rattle.std.proofs.lemmas.Bool.{and_parts}
 use Rattle.std.proofs.lemmas.List.{map-append}
 use Rattle.c_parser.specs.declared.first_form.fixed.Fixed.{Fixed}
 use Rattle.c_parser.specs.declared.first_form.fixed.Fixed.TheVariants as fixed
-use Rattle.c_grammar.specs.declared.word.Mode.{Mode}
-use Rattle.c_grammar.specs.declared.word.Mode.TheVariants as mode
+use Rattle.c_words.specs.declared.word.Mode.{Mode}
+use Rattle.c_words.specs.declared.word.Mode.TheVariants as mode
 use Rattle.c_parser.specs.declared.first_form.tree.FirstStmt.{FirstStmt}
 use Rattle.c_parser.specs.declared.first_form.tree.FirstStmt.TheVariants as stmt
 use Rattle.c_parser.specs.FirstForm.Program.{Function, Property}

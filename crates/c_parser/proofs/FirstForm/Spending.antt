@@ -1,7 +1,7 @@
 -- Each item that is read counts.
 use Rattle.std.proofs.Common.{◌≡◌, ℕ, ◌<◌, ◌≤◌, List, ◌++◌, length, take, drop, Option, Some, arith}
 use Rattle.std.proofs.lemmas.List.{take-append-drop, length-take-le}
-use Rattle.c_grammar.specs.declared.word.Mode.{Mode}
+use Rattle.c_words.specs.declared.word.Mode.{Mode}
 use Rattle.c_parser.specs.declared.first_form.tree.FirstStmt.{FirstStmt}
 use Rattle.c_parser.specs.FirstForm.Program.{Function, Property}
 use Rattle.c_parser.specs.FirstForm.Reading.{Left, next_statement, declaration, function, optional_property}

@@ -6,7 +6,7 @@ use Rattle.std.proofs.lemmas.Bool.{eqb-true}
 use Rattle.std.proofs.lemmas.List.{map-append, length-map, nil_from_length}
 use Rattle.c_lexer.specs.declared.token.Token.{Token}
 use Rattle.c_parser.specs.declared.first_form.fixed.Fixed.TheVariants as fixed
-use Rattle.c_grammar.specs.declared.word.Mode.{Mode}
+use Rattle.c_words.specs.declared.word.Mode.{Mode}
 use Rattle.c_parser.specs.FirstForm.Program.{Function, Property, Program}
 use Rattle.c_parser.specs.FirstForm.Spelling.{Word, words_of, names_of, statement_words, declaration_words, main_words, functions_words, optional_property_words, program_words, named, keyword, mark, number as number_word}
 use Rattle.c_parser.specs.FirstForm.Texts.{StatementFits, BodiesFit, PropertyFits, IsFirstForm, Spells, size, limit, is_free_name}

@@ -9,8 +9,8 @@ use Rattle.c_parser.specs.declared.first_form.fault.Fault.{Fault}
 use Rattle.c_parser.specs.declared.first_form.fault.Fault.TheVariants as fault
 use Rattle.c_parser.specs.declared.first_form.fixed.Fixed.{Fixed}
 use Rattle.c_parser.specs.declared.first_form.fixed.Fixed.TheVariants as fixed
-use Rattle.c_grammar.specs.declared.word.Mode.{Mode}
-use Rattle.c_grammar.specs.declared.word.Mode.TheVariants as mode
+use Rattle.c_words.specs.declared.word.Mode.{Mode}
+use Rattle.c_words.specs.declared.word.Mode.TheVariants as mode
 use Rattle.c_parser.specs.declared.first_form.tree.FirstStmt.{FirstStmt}
 use Rattle.c_parser.specs.declared.first_form.tree.FirstStmt.TheVariants as stmt
 use Rattle.c_parser.specs.FirstForm.Program.{Function, Property, Program}

@@ -5,8 +5,8 @@ use Rattle.std.specs.Str.{bytes_eq}
 use Rattle.c_lexer.specs.declared.token.TokenKind.TheVariants as kind
 use Rattle.c_lexer.specs.declared.token.Token.{Token}
 use Rattle.c_lexer.specs.FirstForm.Tokens.{is_token, AreTokensOf}
-use Rattle.c_grammar.specs.declared.word.Mode.{Mode}
-use Rattle.c_grammar.specs.declared.word.Mode.TheVariants as mode
+use Rattle.c_words.specs.declared.word.Mode.{Mode}
+use Rattle.c_words.specs.declared.word.Mode.TheVariants as mode
 use Rattle.c_parser.specs.declared.first_form.tree.FirstStmt.{FirstStmt}
 use Rattle.c_parser.specs.declared.first_form.tree.FirstStmt.TheVariants as stmt
 use Rattle.c_parser.specs.FirstForm.Program.{Function, Property, Program}

@@ -3,7 +3,7 @@ ghost use Rattle.std.specs.Prelude.{◌≡◌, ◌<◌, ◌^◌, length};
 ghost use Rattle.c_parser.specs.FirstForm.Reading as spec;
 
 use crate::first_form::names::Names;
-use c_grammar::word::Mode;
+use c_words::word::Mode;
 
 /// The variables' names and then those of the functions so far.
 #[derive(Drop)]

@@ -8,7 +8,7 @@ use crate::first_form::fixed::Fixed;
 use crate::first_form::reader::Reader;
 use crate::first_form::scope::Scope;
 use crate::first_form::tree::FirstStmt;
-use c_grammar::word::Mode;
+use c_words::word::Mode;
 use std::alloc::Global;
 
 #[tactic(auto, unfolding(crate::specs::FirstForm::Reading::variable))]

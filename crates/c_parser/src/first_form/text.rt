@@ -19,8 +19,8 @@ use crate::first_form::reader::Reader;
 use crate::first_form::scope::Scope;
 use crate::first_form::statement::{body, variable};
 use crate::first_form::tree::{FirstFunction, FirstProperty, FirstTree};
-use c_grammar::word::Mode;
 use c_lexer::Token;
+use c_words::word::Mode;
 use std::alloc::{AllocError, Global};
 
 /// Whether a variable or a function may have this name.

@@ -4,7 +4,7 @@ use Rattle.std.specs.Prelude.{codes}
 use Rattle.std.specs.List.{AllByRecursion, flat_map}
 use Rattle.std.proofs.lemmas.List.{length-map}
 use Rattle.std.proofs.lemmas.Option.{unwrap_or-slice_get}
-use Rattle.c_grammar.specs.declared.word.Mode.{Mode}
+use Rattle.c_words.specs.declared.word.Mode.{Mode}
 use Rattle.c_parser.specs.declared.first_form.tree.FirstStmt.{FirstStmt}
 use Rattle.c_parser.specs.declared.first_form.tree.FirstStmt.TheVariants as stmt
 use Rattle.c_parser.specs.FirstForm.Program.{Function, Program}

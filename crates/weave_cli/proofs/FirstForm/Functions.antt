@@ -5,7 +5,7 @@ use Rattle.std.specs.List.{AllByRecursion, flat_map}
 use Rattle.c_lexer.specs.Bytes.{is_keyword, keywords}
 use Rattle.c_lexer.specs.FirstForm.Tokens.{is_decimal}
 use Rattle.c_lexer.proofs.TokenLemmas.{lead}
-use Rattle.c_grammar.specs.declared.word.Mode.{Mode}
+use Rattle.c_words.specs.declared.word.Mode.{Mode}
 use Rattle.c_parser.specs.declared.first_form.tree.FirstStmt.{FirstStmt}
 use Rattle.c_parser.specs.FirstForm.Program.{Function, Program}
 use Rattle.c_parser.specs.FirstForm.Spelling.{Word, named, keyword, mark, number, names_of, statement_words, function_words, main_words, functions_words}

@@ -8,7 +8,7 @@ use Rattle.step_meaning.specs.declared.program.Function.{Function as CoreFunctio
 use Rattle.step_meaning.specs.Steps.{items, steps}
 use Rattle.step_meaning.specs.Runs.{run}
 use Rattle.step_meaning.specs.Verdicts.{verdicts_before, AreSafe}
-use Rattle.c_grammar.specs.declared.word.Mode.TheVariants as mode
+use Rattle.c_words.specs.declared.word.Mode.TheVariants as mode
 use Rattle.c_parser.specs.FirstForm.Program.{Function, Property, Program}
 use Rattle.c_parser.specs.FirstForm.Texts.{BodiesFit, IsFirstForm, IsTextOf}
 use Rattle.weave_cli.specs.FirstForm.Cores.{core_functions, getchar, putchar, malloc, free, first_core}

@@ -8,7 +8,7 @@ use Rattle.c_lexer.specs.FirstForm.Tokens.{is_token}
 use Rattle.c_lexer.specs.Spellings.{is_identifier}
 use Rattle.c_lexer.specs.Positions.{after}
 use Rattle.c_lexer.proofs.ListLemmas.{left}
-use Rattle.c_grammar.specs.declared.word.Mode.TheVariants as mode
+use Rattle.c_words.specs.declared.word.Mode.TheVariants as mode
 use Rattle.c_parser.specs.FirstForm.Program.{Function, Property, Program}
 use Rattle.c_parser.specs.FirstForm.Spelling.{names_of, declaration_words, optional_property_words, functions_words, program_words}
 use Rattle.c_parser.specs.FirstForm.Texts.{is_name, is_free_name, PropertyFits, IsFirstForm, IsTextOf}

@@ -4,7 +4,7 @@ use Rattle.std.specs.Prelude.{sum_by, AllPairs}
 use Rattle.std.specs.List.{AllByRecursion}
 use Rattle.std.proofs.lemmas.List.{length-append, length-map, map-append}
 use Rattle.std.proofs.lemmas.List.Sums.{sum_by-cons}
-use Rattle.c_grammar.specs.declared.word.Mode.TheVariants as mode
+use Rattle.c_words.specs.declared.word.Mode.TheVariants as mode
 use Rattle.c_parser.specs.declared.first_form.tree.FirstStmt.{FirstStmt}
 use Rattle.c_parser.specs.declared.first_form.tree.FirstStmt.TheVariants as stmt
 use Rattle.c_parser.specs.FirstForm.Program.{Function, Property, Program}

@@ -18,7 +18,7 @@ use Rattle.step_meaning.specs.Calls.{annotations, after_annotations, with_argume
 use Rattle.step_meaning.specs.Runs.{run}
 use Rattle.c_parser.specs.declared.first_form.tree.FirstStmt.{FirstStmt}
 use Rattle.c_parser.specs.declared.first_form.tree.FirstStmt.TheVariants as stmt
-use Rattle.c_grammar.specs.declared.word.Mode.TheVariants as mode
+use Rattle.c_words.specs.declared.word.Mode.TheVariants as mode
 use Rattle.c_parser.specs.FirstForm.Program.{Function}
 use Rattle.c_parser.specs.FirstForm.Texts.{StatementFits, BodiesFit}
 use Rattle.weave_cli.specs.FirstForm.Cores.{int, core_statements, return_zero, core_function, void_function, core_functions, getchar, putchar, malloc, free}

@@ -52,6 +52,8 @@ quiet_writes_nothing x (act.Return g v) q w = w
 quiet_writes_nothing x (act.Read p) q w = w
 quiet_writes_nothing x act.Input q w = w
 quiet_writes_nothing x (act.Output b) q w = w
+quiet_writes_nothing x (act.Malloc n p k) q w = w
+quiet_writes_nothing x (act.Free p) q w = w
 quiet_writes_nothing x act.Turn q w = w
 quiet_writes_nothing x (act.Halt f) q w = w
 
@@ -105,6 +107,8 @@ module _ (p q : Core) (names : (g : ℕ) → function_name q g ≡ function_name
   same_action (act.Write p v) = refl
   same_action act.Input = refl
   same_action (act.Output b) = refl
+  same_action (act.Malloc n p k) = refl
+  same_action (act.Free p) = refl
   same_action act.Turn = refl
   same_action (act.Halt f) = refl
 

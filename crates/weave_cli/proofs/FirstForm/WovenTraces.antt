@@ -19,7 +19,7 @@ use Rattle.step_meaning.specs.Accesses.{write_at}
 use Rattle.step_meaning.specs.Statements.{Completion, exec_all}
 use Rattle.c_parser.specs.declared.first_form.tree.FirstStmt.{FirstStmt}
 use Rattle.c_parser.specs.declared.first_form.tree.FirstStmt.TheVariants as stmt
-use Rattle.c_grammar.specs.declared.word.Mode.TheVariants as mode
+use Rattle.c_words.specs.declared.word.Mode.TheVariants as mode
 use Rattle.c_parser.specs.FirstForm.Texts.{StatementFits}
 use Rattle.weave_cli.specs.FirstForm.Cores.{int, separated, core_statements}
 use Rattle.weave_cli.specs.FirstForm.Weaving.{woven_statements}

@@ -12,7 +12,7 @@ use Rattle.step_meaning.specs.declared.stmt.Stmt.TheVariants as core
 use Rattle.step_meaning.specs.declared.program.Function.{Function as CoreFunction}
 use Rattle.step_meaning.specs.declared.program.Core.{Core}
 use Rattle.step_meaning.specs.Steps.{Step}
-use Rattle.c_grammar.specs.declared.word.Mode.TheVariants as mode
+use Rattle.c_words.specs.declared.word.Mode.TheVariants as mode
 use Rattle.c_parser.specs.FirstForm.Program.{Program}
 use Rattle.c_parser.specs.FirstForm.Texts.{IsTextOf}
 use Rattle.weave_cli.specs.FirstForm.Cores.{first_core}

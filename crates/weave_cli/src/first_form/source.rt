@@ -1,7 +1,7 @@
 //! From the text of a source to the woven text.
 
 ghost use Rattle.std.specs.Prelude.{◌<◌, ◌^◌, length, IfOk, IfSome, IfNone};
-ghost use Rattle.c_grammar.specs.declared.word.Mode.TheVariants as mode;
+ghost use Rattle.c_words.specs.declared.word.Mode.TheVariants as mode;
 ghost use Rattle.c_parser.specs.FirstForm.Program.{program_of};
 ghost use Rattle.c_parser.specs.FirstForm.Texts.{IsTextOf};
 ghost use Rattle.weave_cli.specs.Answers.{IsFirstProgram, IsWovenText};

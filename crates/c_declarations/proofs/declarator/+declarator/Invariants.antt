@@ -1,8 +1,8 @@
 use Rattle.std.proofs.Common.{◌+◌, ◌*◌}
 use Rattle.c_declarations.proofs.declarator.+declarator.Given as goal
 
-abbrev pub decreases-declarator : goal.decreases-declarator
-decreases-declarator l = 4 * l.depth
+abbrev pub decreases-measured : goal.decreases-measured
+decreases-measured l = 4 * l.depth
 
 abbrev pub decreases-direct : goal.decreases-direct
 decreases-direct l = 4 * l.inside + 3

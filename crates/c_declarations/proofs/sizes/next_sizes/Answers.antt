@@ -1,12 +1,12 @@
 use Rattle.std.proofs.Common.{rules, arith}
 use Rattle.std.proofs.lemmas.Grind.{common_steps}
-use Rattle.c_grammar.proofs.Turns.{one_more, no_more}
+use Rattle.c_words.proofs.Turns.{one_more, no_more}
 use Rattle.c_declarations.specs.ParameterReading.{sizes_from}
 use Rattle.c_declarations.proofs.sizes.next_sizes.Goals as goal
 
-pub returns-then-not-sizes_fit : goal.returns-then-not-sizes_fit
+pub returns-then-not-nesting-inside : goal.returns-then-not-nesting-inside
 unfolding sizes_from
-returns-then-not-sizes_fit c =
+returns-then-not-nesting-inside c =
     let e = one_more (λ n. sizes_from c.args.inside n c.loop-turn.found c.loop-turn.tokens) _ c.loop-turn._turn c.loop-turn-test.true c.loop-turn.invariant in
     first_of (search rules, grind (arith, common_steps))
 

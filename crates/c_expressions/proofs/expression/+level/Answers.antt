@@ -1,6 +1,6 @@
 use Rattle.std.proofs.Common.{arith}
 use Rattle.c_expressions.specs.ExpressionReading.{inner_at}
-use Rattle.c_grammar.proofs.Turns.{deeper}
+use Rattle.c_words.proofs.Turns.{deeper}
 use Rattle.c_expressions.proofs.expression.+level.Goals as goal
 
 pub assign-returns : goal.assign-returns

@@ -1,9 +1,9 @@
 use Rattle.std.proofs.Common.{◌≡◌, true, false, ◌∷◌, [], length, IfOk, sym, ap, subst, ◌∙◌, rules, arith}
 use Rattle.std.specs.Vec.Iter.{into_iter_items, into_iter_len}
 use Rattle.std.proofs.lemmas.Grind.{common_steps}
-use Rattle.c_grammar.specs.Operators.{has}
+use Rattle.c_words.specs.Operators.{has}
 use Rattle.c_grouping.specs.Grouping.{group_from}
-use Rattle.c_grammar.proofs.Turns.{nothing_left}
+use Rattle.c_words.proofs.Turns.{nothing_left}
 use Rattle.c_grouping.proofs.GroupSteps.{closes, goes_on, ends}
 use Rattle.c_grouping.proofs.group.group.Goals as goal
 

@@ -1,6 +1,6 @@
 use Rattle.std.proofs.Common.{◌≡◌, length}
 use Rattle.std.specs.Vec.Iter.{into_iter_items, into_iter_len}
-use Rattle.c_grammar.specs.Operators.{has}
+use Rattle.c_words.specs.Operators.{has}
 use Rattle.c_grouping.specs.Grouping as spec
 use Rattle.c_grouping.proofs.group.group.Given as goal
 

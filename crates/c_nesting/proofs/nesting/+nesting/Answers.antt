@@ -1,6 +1,6 @@
 use Rattle.std.proofs.Common.{nat_lt, arith}
 use Rattle.c_grammar.specs.Expressions.{assign, choice, unary}
-use Rattle.c_grammar.proofs.Turns.{deeper}
+use Rattle.c_words.proofs.Turns.{deeper}
 use Rattle.c_nesting.proofs.nesting.+nesting.Goals as goal
 
 pub assign_fits-returns : goal.assign_fits-returns

@@ -1,9 +1,9 @@
 use Rattle.std.proofs.Common.{◌≡◌, true, false, nat_lt, sym, ap, ◌∙◌, rules, arith}
 use Rattle.std.proofs.lemmas.Grind.{common_steps}
-use Rattle.c_grammar.specs.Operators.{has}
-use Rattle.c_grammar.specs.declared.operators.Operators.TheVariants as o
-use Rattle.c_grammar.specs.Written.{links}
-use Rattle.c_grammar.proofs.Turns.{nothing_left}
+use Rattle.c_words.specs.Operators.{has}
+use Rattle.c_words.specs.declared.operators.Operators.TheVariants as o
+use Rattle.c_words.specs.Written.{links}
+use Rattle.c_words.proofs.Turns.{nothing_left}
 use Rattle.c_nesting.proofs.NestingLaws.{links_none, links_more, links_stop, first_stops, first_fits}
 use Rattle.c_nesting.proofs.nesting.chain_fits.Goals as goal
 

@@ -1,6 +1,6 @@
 use Rattle.std.proofs.Common.{◌≡◌, ◌<◌, nat_lt, Bool, length}
-use Rattle.c_grammar.specs.declared.word.Word.{Word}
-use Rattle.c_grammar.specs.Written.{links, chain}
+use Rattle.c_words.specs.declared.word.Word.{Word}
+use Rattle.c_words.specs.Written.{links, chain}
 use Rattle.c_nesting.proofs.nesting.chain_fits.Given as goal
 
 abbrev pub invariant-loop-link : goal.invariant-loop-link

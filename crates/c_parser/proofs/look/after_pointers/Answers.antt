@@ -1,6 +1,6 @@
 use Rattle.std.proofs.Common.{◌≡◌, true, rules, arith, ◌∙◌, sym}
 use Rattle.std.proofs.lemmas.Grind.{common_steps}
-use Rattle.c_grammar.specs.Parsing.{word_at}
+use Rattle.c_words.specs.Parsing.{word_at}
 use Rattle.c_parser.specs.ItemReading.{skip, is_pointer}
 use Rattle.c_parser.proofs.ItemWords.{skip_none, skip_some, skip_nil, after_shorter, pointer_not_end}
 use Rattle.c_parser.proofs.look.after_pointers.Goals as goal

@@ -1,6 +1,6 @@
 use Rattle.std.proofs.Common.{◌≡◌, ◌+◌, true, false, cond, rules, arith, ◌∙◌, sym, ap}
 use Rattle.std.proofs.lemmas.Grind.{common_steps}
-use Rattle.c_grammar.specs.Parsing.{word_at}
+use Rattle.c_words.specs.Parsing.{word_at}
 use Rattle.c_parser.specs.ItemReading.{leading_stars, is_pointer}
 use Rattle.c_parser.proofs.ItemWords.{stars_some, stars_at_other, stars_nil, after_shorter, pointer_not_end}
 use Rattle.c_parser.proofs.look.leading_stars.Goals as goal

@@ -1,4 +1,4 @@
-use Rattle.c_grammar.specs.Parsing.{chain_by}
+use Rattle.c_words.specs.Parsing.{chain_by}
 use Rattle.c_type_names.proofs.chain.chain.Goals as goal
 
 pub returns : goal.returns

@@ -1,8 +1,8 @@
 use Rattle.std.proofs.Common.{rules, arith}
 use Rattle.std.proofs.lemmas.Grind.{common_steps}
-use Rattle.c_grammar.specs.Operators.{has, continues}
-use Rattle.c_grammar.specs.Parsing.{links_from}
-use Rattle.c_grammar.proofs.Turns.{one_more, no_more}
+use Rattle.c_words.specs.Operators.{has, continues}
+use Rattle.c_words.specs.Parsing.{links_from}
+use Rattle.c_words.proofs.Turns.{one_more, no_more}
 use Rattle.c_type_names.proofs.chain.links.Goals as goal
 
 pub returns-then-not-continues : goal.returns-then-not-continues

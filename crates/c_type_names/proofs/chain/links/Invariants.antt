@@ -1,6 +1,6 @@
 use Rattle.std.proofs.Common.{◌≡◌, [], length, ◌-◌}
-use Rattle.c_grammar.specs.Operators.{has, continues}
-use Rattle.c_grammar.specs.Parsing.{links_from}
+use Rattle.c_words.specs.Operators.{has, continues}
+use Rattle.c_words.specs.Parsing.{links_from}
 use Rattle.c_type_names.proofs.chain.links.Given as goal
 
 abbrev pub invariant-loop-turn : goal.invariant-loop-turn

@@ -1,7 +1,7 @@
 use Rattle.std.proofs.Common.{rules, arith}
 use Rattle.std.proofs.lemmas.Grind.{common_steps}
-use Rattle.c_grammar.specs.Parsing.{run_from, run_at}
-use Rattle.c_grammar.proofs.Turns.{one_more, no_more}
+use Rattle.c_words.specs.Parsing.{run_from, run_at}
+use Rattle.c_words.proofs.Turns.{one_more, no_more}
 use Rattle.c_type_names.proofs.chain.run.Goals as goal
 
 pub returns-then-not-begins : goal.returns-then-not-begins

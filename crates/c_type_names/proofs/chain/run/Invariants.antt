@@ -1,5 +1,5 @@
 use Rattle.std.proofs.Common.{◌≡◌, [], length, ◌-◌}
-use Rattle.c_grammar.specs.Parsing.{run_from}
+use Rattle.c_words.specs.Parsing.{run_from}
 use Rattle.c_type_names.proofs.chain.run.Given as goal
 
 abbrev pub invariant-loop-turn : goal.invariant-loop-turn

@@ -1,7 +1,7 @@
 use Rattle.std.proofs.Common.{rules, arith}
 use Rattle.std.proofs.lemmas.Grind.{common_steps}
 use Rattle.c_type_names.specs.TypeReading.{stars_from}
-use Rattle.c_grammar.proofs.Turns.{one_more, no_more}
+use Rattle.c_words.proofs.Turns.{one_more, no_more}
 use Rattle.c_type_names.proofs.types.stars.Goals as goal
 
 pub returns-then-not-same : goal.returns-then-not-same

@@ -1,7 +1,7 @@
 use Rattle.std.proofs.Common.{◌≡◌, ◌<◌, suc, true, false, nat_lt, sym, ap, ◌∙◌, arith}
-use Rattle.c_grammar.specs.Written.{run}
+use Rattle.c_words.specs.Written.{run}
 use Rattle.c_grammar.specs.Expressions.{suffix}
-use Rattle.c_grammar.proofs.Turns.{nothing_left}
+use Rattle.c_words.proofs.Turns.{nothing_left}
 use Rattle.c_nesting.proofs.NestingLaws.{run_none, run_more, run_stop}
 use Rattle.c_nesting.proofs.nesting.Nesting.suffixes.Goals as goal
 

@@ -1,5 +1,5 @@
 use Rattle.std.proofs.Common.{◌≡◌, suc, nat_lt, length}
-use Rattle.c_grammar.specs.Written.{run}
+use Rattle.c_words.specs.Written.{run}
 use Rattle.c_grammar.specs.Expressions.{assign, suffix}
 use Rattle.c_nesting.specs.Measuring.{Tells}
 use Rattle.c_nesting.proofs.nesting.Nesting.suffixes.Given as goal

@@ -1,6 +1,6 @@
 use Rattle.std.proofs.Common.{rules, ◌≡◌, ◌∙◌, true, false, None, arith}
 use Rattle.std.proofs.lemmas.Grind.{common_steps}
-use Rattle.c_grammar.specs.Parsing.{word_at, run_at}
+use Rattle.c_words.specs.Parsing.{word_at, run_at}
 use Rattle.c_expressions.specs.ExpressionReading.{inner_at}
 use Rattle.c_statements.specs.StatementReading as spec
 use Rattle.c_statements.specs.StatementReading.{at_level, begins_part}

@@ -1,5 +1,5 @@
 use Rattle.std.proofs.Common.{◌≡◌, [], length, ◌-◌}
-use Rattle.c_grammar.specs.Parsing.{run_from}
+use Rattle.c_words.specs.Parsing.{run_from}
 use Rattle.c_statements.specs.StatementReading as spec
 use Rattle.c_statements.specs.StatementReading.{at_level, begins_part}
 use Rattle.c_statements.proofs.statement.Statements.parts.Given as goal
