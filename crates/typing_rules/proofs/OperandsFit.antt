@@ -1,12 +1,12 @@
 -- What rules give has the type that they say, by the types of expressions in a core: a beginning.
-use Rattle.std.proofs.Common.{◌≡◌, ℕ, Bool, true, false, ◌&&◌, not, List, [], ◌∷◌, length, Option, Some, None, Ok, Err, refl, sym, ap, ◌∙◌, slice_get, arith}
+use Rattle.std.proofs.Common.{◌≡◌, ℕ, Bool, true, false, ◌&&◌, length, Some, Ok, Err, refl, sym, ap, ◌∙◌, arith}
 use Rattle.std.specs.Prelude.{◌==◌}
 use Rattle.step_meaning.specs.declared.value.IntKind.{IntKind}
 use Rattle.step_meaning.specs.declared.value.IntKind.TheVariants as kind
 use Rattle.step_meaning.specs.declared.value.CType.{CType, end_of-CType, more_of-CType}
 use Rattle.step_meaning.specs.declared.value.CType.TheVariants as type
 use Rattle.step_meaning.specs.declared.expr.IntOp.{IntOp}
-use Rattle.step_meaning.specs.declared.expr.Side.TheVariants.{PointerFirst, PointerLast, Minus}
+use Rattle.step_meaning.specs.declared.expr.Side.TheVariants.{PointerFirst}
 use Rattle.step_meaning.specs.declared.expr.Expr.{Expr}
 use Rattle.step_meaning.specs.declared.expr.Expr.TheVariants as e
 use Rattle.step_meaning.specs.declared.expr.Expr.TheBlock.{shape-the_row-Expr-0, hidden-the_row-Expr-0}
@@ -16,7 +16,7 @@ use Rattle.step_meaning.specs.Types.{same_type}
 use Rattle.step_meaning.specs.TypeRules.{cells, is_scalar}
 use Rattle.step_meaning.specs.Conversions.{same_int_kind, is_promoted}
 use Rattle.step_meaning.specs.Settings.{Setting}
-use Rattle.step_meaning.specs.ExpressionTypes.{type_of, type_of_place, pointer_to, is_void, is_shift, is_register, is_null_constant, has_this_type, is_taken_by}
+use Rattle.step_meaning.specs.ExpressionTypes.{type_of, type_of_place, pointer_to, is_void, is_shift}
 use Rattle.step_meaning.specs.declared.stmt.Stmt.{Stmt}
 use Rattle.step_meaning.specs.declared.stmt.Stmt.TheVariants as core
 use Rattle.step_meaning.specs.declared.stmt.Stmt.TheBlock.{shape-the_row-Stmt-1, hidden-the_row-Stmt-1}
@@ -74,7 +74,6 @@ module _ (q : Core) (g : Setting) where
   pub assigned_fits : (p : Place_) (t : CType) (x : Expr) → is_scalar t ≡ true → type_of_place q g p ≡ Some t → type_of q g x ≡ Some t → type_of q g (e.Assign p t x) ≡ Some t
   unfolding shape-the_row-Expr-0 hidden-the_row-Expr-0 hidden
   assigned_fits p t x s a b = rw (a, b, s, same_itself t) refl
-
 
 -- ---- rules on values
 

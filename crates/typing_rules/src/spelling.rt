@@ -7,8 +7,8 @@ ghost use Rattle.typing_rules.specs.Expressions as expressions;
 
 use crate::judgement::Operator;
 use c_grammar::types::Integer;
-use c_words::word::Word;
 use c_lexer::ConstantType;
+use c_words::word::Word;
 use step_meaning::{CompareOp, IntKind, IntOp};
 
 /// The operator of a chain (C11 6.5.5 to 6.5.14); of another word `%`.
