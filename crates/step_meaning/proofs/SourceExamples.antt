@@ -16,7 +16,7 @@ use Rattle.step_meaning.specs.Promises.{has_blocks, ReturnsRegisters}
 use Rattle.step_meaning.specs.TermSizes.{type_depth}
 use Rattle.step_meaning.specs.WellFormed.{OfBody}
 use Rattle.step_meaning.specs.Sources.{is_bare, has_short_calls, calls_are_short, branching, full_nesting, have_source_types, IsSourceFunction, IsSource}
-use Rattle.step_meaning.proofs.Examples.{int, pointer_to, lit, load, both, either, return}
+use Rattle.step_meaning.proofs.Examples.{int, pointer_to, lit, load, assign, both, either, return}
 use Rattle.step_meaning.proofs.NormalExamples.{register, counting}
 use Rattle.step_meaning.proofs.WellFormedExamples.{named, getchar, putchar, malloc, free, add, main, adding, adding_well_formed}
 
@@ -71,6 +71,30 @@ deepest_type = refl
 
 too_deep_type : is_small (allocated (pointers 100)) ≡ false
 too_deep_type = refl
+
+-- r = malloc(sizeof(T));
+too_deep_taken : is_small (assign (register 0) (pointers 101) (allocated (pointers 100))) ≡ false
+too_deep_taken = refl
+
+-- free(malloc(sizeof(T))); the operands of both count
+abbrev freed : Expr → Expr
+freed a = e.Free' tt (more_of-Expr a end_of-Expr)
+
+too_deep_in_free : has_short_calls (freed (allocated (pointers 99))) ≡ false
+too_deep_in_free = refl
+
+abbrev counted : Expr → Expr
+counted a = e.Malloc' tt (more_of-Expr a end_of-Expr) int
+
+too_deep_in_count : has_short_calls (counted (allocated (pointers 99))) ≡ false
+too_deep_in_count = refl
+
+-- malloc((1 && 1) * sizeof(int)), and free(1 && 1)
+count_in_branch : branching (counted (both (lit 1) (lit 1))) ≡ 3
+count_in_branch = refl
+
+freed_in_branch : branching (freed (both (lit 1) (lit 1))) ≡ 3
+freed_in_branch = refl
 
 -- ---- sources
 
