@@ -14,7 +14,7 @@ use Rattle.step_meaning.specs.declared.expr.Place_.{Place_}
 use Rattle.step_meaning.specs.declared.predicate.Term.{Term}
 use Rattle.step_meaning.specs.declared.predicate.Term.TheVariants as t
 use Rattle.step_meaning.specs.declared.predicate.TermPlace.TheVariants as p
-use Rattle.step_meaning.specs.declared.predicate.Predicate.{Predicate, end_of-Predicate, more_of-Predicate}
+use Rattle.step_meaning.specs.declared.predicate.Predicate.{end_of-Predicate, more_of-Predicate}
 use Rattle.step_meaning.specs.declared.predicate.Predicate.TheVariants as is
 use denote.Hole.Carrier.{hidden}
 use Rattle.step_meaning.specs.declared.stmt.GhostStmt.TheVariants.{Set}
@@ -34,7 +34,7 @@ use Rattle.step_meaning.specs.Identifiers.{keywords, is_keyword}
 use Rattle.step_meaning.specs.WellFormed.{IsWellFormed, IsWellFormedFunction}
 use Rattle.step_meaning.specs.Fold.{fold}
 use Rattle.step_meaning.specs.Verdicts.{verdicts}
-use Rattle.step_meaning.specs.Fit.{PointFits, Fit, FitTogether}
+use Rattle.step_meaning.specs.Fit.{PointFits, FitTogether}
 use Rattle.step_meaning.specs.FoldSimulation.{FoldSimulates}
 use Rattle.step_meaning.proofs.Examples.{pointer_to, int, declared, lit, global, assign, return}
 use Rattle.step_meaning.proofs.FoldExamples.{safe, hooks, point, variable}
