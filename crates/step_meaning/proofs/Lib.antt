@@ -33,6 +33,7 @@ pub mod FormedFunctions
 pub mod AnnotationExamples
 pub mod FoldExamples
 pub mod HeapExamples
+pub mod HeapEdges
 pub mod OrderExamples
 pub mod GhostExamples
 pub mod SettingExamples

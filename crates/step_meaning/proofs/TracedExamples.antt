@@ -9,6 +9,7 @@ use Rattle.step_meaning.specs.declared.value.CType.TheVariants as type
 use Rattle.step_meaning.specs.declared.value.Value.TheVariants as value
 use Rattle.step_meaning.specs.declared.value.Cell.{Cell}
 use Rattle.step_meaning.specs.declared.value.Cell.TheVariants.{Nothing, Holds}
+use Rattle.step_meaning.specs.declared.value.Action.{Action}
 use Rattle.step_meaning.specs.declared.value.Action.TheVariants as act
 use Rattle.step_meaning.specs.declared.program.Core.{Core}
 use Rattle.step_meaning.specs.declared.program.Function.{Function}
@@ -16,7 +17,7 @@ use Rattle.step_meaning.specs.Memory.{Memory, Frame, HeapBlock, frame_of, block}
 use Rattle.step_meaning.specs.Steps.{Step, steps}
 use Rattle.step_meaning.specs.Runs.{run}
 use Rattle.step_meaning.specs.Limits.{is_enter}
-use Rattle.step_meaning.specs.Traced.{is_return, PointsIntoProgram, SlotTyped, BlocksTyped, IsProgramMemory, contents, ParametersHold, IsStepOf, IsTraced, At}
+use Rattle.step_meaning.specs.Traced.{is_return, PointsIntoProgram, SlotTyped, BlocksTyped, IsProgramMemory, NamesOwn, PointsOnlyIntoProgram, AccessesPointer, ActionHasTypes, contents, ParametersHold, IsStepOf, IsTraced, At}
 use Rattle.step_meaning.specs.TracedRuns.{cells_declared, cells_of_each, HasVariables, EachHasVariables}
 use Rattle.step_meaning.proofs.Examples.{empty_main, declared, function, program, int, lit, pointer_to, return}
 
@@ -265,3 +266,20 @@ freed_integer h = h.accesses
 -- and `malloc` gives no pointer to a register
 register_allocated : IsStepOf empty_main (record { action = act.Malloc 1 (value.Pointer (record { kind = names.Register; activation = 0; index = 0 }) 0) 1; function = 4; activation = 0; memory = open_memory }) → ⊥
 register_allocated h = true_is_not_false h.pointers
+
+-- the pointer of a `free` is none to a ghost variable, and that of a `malloc` is a pointer
+ghost_freed : IsStepOf empty_main (record { action = act.Free (value.Pointer (record { kind = names.GhostGlobal; activation = 0; index = 0 }) 0); function = 4; activation = 0; memory = open_memory }) → ⊥
+ghost_freed h = true_is_not_false h.pointers
+
+integer_allocated : IsStepOf empty_main (record { action = act.Malloc 1 (value.Int (pos 0)) 0; function = 4; activation = 0; memory = open_memory }) → ⊥
+integer_allocated h = h.accesses
+
+-- which block it is isn't asked: a `free` at a variable of file scope, and a `malloc` that gives the end of a block which isn't there
+step_of_main : (a : Action) → PointsOnlyIntoProgram a → AccessesPointer a → NamesOwn a 4 → ActionHasTypes main a → ParametersHold a 0 open_memory → IsStepOf empty_main (record { action = a; function = 4; activation = 0; memory = open_memory })
+step_of_main a points accesses own types held = record { memory = open_fits; own_function = own; pointers = points; accesses = accesses; executed = (main, (refl, refl), types); parameters_hold = held }
+
+variable_freed : IsStepOf empty_main (record { action = act.Free (value.Pointer (record { kind = names.Global; activation = 0; index = 0 }) 0); function = 4; activation = 0; memory = open_memory })
+variable_freed = step_of_main (act.Free (value.Pointer (record { kind = names.Global; activation = 0; index = 0 }) 0)) refl (lit< tt) tt tt tt
+
+end_allocated : IsStepOf empty_main (record { action = act.Malloc 1 (value.Pointer (record { kind = names.Heap; activation = 7; index = 0 }) 5) 2; function = 4; activation = 0; memory = open_memory })
+end_allocated = step_of_main (act.Malloc 1 (value.Pointer (record { kind = names.Heap; activation = 7; index = 0 }) 5) 2) refl (lit< tt) tt tt tt
