@@ -1,0 +1,5 @@
+pub mod Making
+pub mod Clearing
+pub mod Chains
+pub mod Following
+pub mod Blocks

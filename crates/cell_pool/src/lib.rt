@@ -1,0 +1,7 @@
+//! A region of cells in chunks of 16, in which blocks are taken and given back without taking memory.
+#![tactic(auto)]
+
+mod chunks;
+mod pool;
+
+pub use pool::{Pool, PoolFull};
