@@ -132,3 +132,10 @@ has_no_cell {C} blank cells next sizes names slot name offset h =
         inl l ↦ absurd (h (record { is_named = e; is_below = l }))
       | inr l ↦ l
       ]
+
+pub held_are : (size : ℕ) → 0 < size → (held size ≡ size / 16 + min 1 (size % 16)) × (1 ≤ held size)
+held_are size l =
+    let h : held size ≡ chunks_of size = held_some size l in
+    let c : chunks_of size ≡ size / 16 + min 1 (size % 16) = chunks_are size l in
+    let m : 1 ≤ max 1 (div_ceil size 16) = le-max_left 1 (div_ceil size 16) in
+    (omega arith, omega arith)

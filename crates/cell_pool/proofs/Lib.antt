@@ -3,3 +3,4 @@ pub mod Clearing
 pub mod Chains
 pub mod Following
 pub mod Blocks
+pub mod Changes

@@ -1,5 +1,5 @@
 -- A region without blocks.
-use Rattle.std.proofs.Common.{◌≡◌, ℕ, zero, suc, ◌+◌, ◌*◌, ◌<◌, ◌≤◌, List, [], ◌∷◌, ◌++◌, map, length, get_or, replicate, Some, None, Option, refl, sym, ◌∙◌, ap, inl, inr, arith, add-zero, add-one}
+use Rattle.std.proofs.Common.{◌≡◌, ℕ, zero, suc, ◌+◌, ◌*◌, ◌^◌, ◌<◌, ◌≤◌, List, [], ◌∷◌, ◌++◌, map, length, get_or, replicate, Some, None, Option, refl, sym, ◌∙◌, ap, inl, inr, arith, add-zero, add-one}
 use Rattle.std.specs.List.{range_with_len, sum_by}
 use Rattle.std.proofs.lemmas.Bool.{cases_lt}
 use Rattle.std.proofs.lemmas.List.{map-id, get_or-replicate, get_or_past, length-replicate, ext_get_or}
@@ -22,7 +22,7 @@ in_row n (suc i) l =
     let m : i < n = omega arith in
     rw (before, get_or-range_with_len 1 n i 0 m) (omega arith)
 
-no_size : (n s : ℕ) → get_or (replicate n 0) s 0 ≡ 0
+no_size : (n s : ℕ) → ◌≡◌ {A = ℕ} (get_or (replicate n 0) s 0) 0
 no_size n s =
     elim (cases_lt s n) [
       inl l ↦ get_or-replicate n s 0 0 l
@@ -56,14 +56,13 @@ made n cells l e =
       small = omega arith;
     }
 
+at_none : {C : Type 0} (blank : C) (cells : List C) (next : List ℕ) (n s : ℕ) → s < n → get_or (blocks_from blank cells next (replicate n 0) (replicate n 0)) s None ≡ get_or (replicate n None) s None
+at_none {C} blank cells next n s m =
+  rw (blocks_at blank cells next (replicate n 0) (replicate n 0) s None (rw length-replicate m), get_or-replicate {A = Option (Block C)} n s None None m) (block_none blank cells next (get_or (replicate n 0) s 0) s (get_or (replicate n 0) s 0) (no_size n s))
+
 pub no_blocks : {C : Type 0} (blank : C) (cells : List C) (next : List ℕ) (n : ℕ) → blocks_from blank cells next (replicate n 0) (replicate n 0) ≡ replicate n (nothing {C = C})
 no_blocks {C} blank cells next n =
+    let long : length (blocks_from blank cells next (replicate n 0) (replicate n 0)) ≡ n = length-blocks blank cells next (replicate n 0) (replicate n 0) ∙ length-replicate {A = ℕ} n 0 in
     ext_get_or None (blocks_from blank cells next (replicate n 0) (replicate n 0)) (replicate n None)
-      (length-blocks blank cells next (replicate n 0) (replicate n 0) ∙ length-replicate n 0 ∙ sym (length-replicate n (nothing {C = C})))
-      (λ s l.
-        let m : s < n = rw (length-blocks blank cells next (replicate n 0) (replicate n 0), length-replicate n 0) at l in
-        at_none blank cells next n s m)
-  where
-    at_none : {C : Type 0} (blank : C) (cells : List C) (next : List ℕ) (n s : ℕ) → s < n → get_or (blocks_from blank cells next (replicate n 0) (replicate n 0)) s None ≡ get_or (replicate n None) s None
-    at_none blank cells next n s m =
-      rw (blocks_at blank cells next (replicate n 0) (replicate n 0) s None (rw length-replicate m), get_or-replicate n s None None m) (block_none blank cells next (get_or (replicate n 0) s 0) s (get_or (replicate n 0) s 0) (no_size n s))
+      (long ∙ sym (length-replicate n (nothing {C = C})))
+      (λ s l. at_none blank cells next n s (rw long at l))
