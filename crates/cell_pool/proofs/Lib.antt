@@ -4,3 +4,4 @@ pub mod Chains
 pub mod Following
 pub mod Blocks
 pub mod Changes
+pub mod CellLaws

@@ -2,6 +2,8 @@
 #![tactic(auto)]
 
 mod chunks;
+mod laws;
 mod pool;
 
+pub use laws::cells_kept;
 pub use pool::{Pool, PoolFull};
