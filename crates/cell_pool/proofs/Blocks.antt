@@ -1,18 +1,18 @@
 -- What the lists of a region say of its blocks and cells.
-use Rattle.std.proofs.Common.{◌≡◌, ℕ, zero, suc, ◌+◌, ◌*◌, ◌/◌, ◌%◌, ◌<◌, ◌≤◌, max, min, Bool, true, false, cond, List, [], ◌∷◌, length, map, set, get_or, replicate, Option, Some, None, refl, sym, ◌∙◌, ap, inl, inr, arith, length-set, sum}
-use Rattle.std.specs.List.{range_with_len, sum_by, slice_get}
+use Rattle.std.proofs.Common.{◌≡◌, ℕ, zero, suc, ◌+◌, ◌*◌, ◌/◌, ◌%◌, ◌<◌, ◌≤◌, max, min, List, length, map, get_or, Option, Some, None, refl, sym, ◌∙◌, ap, inl, inr, arith, sum}
+use Rattle.std.specs.List.{sum_by}
 use Rattle.std.specs.Int.{div_ceil}
-use Rattle.std.specs.Option.{is_some, IsSome}
+use Rattle.std.specs.Option.{IsSome}
 use Rattle.std.proofs.lemmas.Bool.{cases_eq, cases_lt, eq-eqb, ne_eqb}
-use Rattle.std.proofs.lemmas.List.{get_or-set_other, get_or-set_same, ext_get_or, get_or_past, get_or-map, length-map}
+use Rattle.std.proofs.lemmas.List.{ext_get_or, get_or_past, get_or-map, length-map}
 use Rattle.std.proofs.lemmas.List.FromFn.{length-map-range_with_len, get_or-map-range_with_len}
 use Rattle.std.proofs.lemmas.List.Sums.{sum-map}
 use Rattle.std.proofs.lemmas.Option.{slice_get_past, slice_get-get_or}
-use Rattle.std.proofs.lemmas.Nat.{div_below, mod_below, div-add-mod'}
+use Rattle.std.proofs.lemmas.Nat.{div_below, div-add-mod'}
 use Rattle.std.proofs.lemmas.Grind.{div_ceil_times}
 use Rattle.std.proofs.Math.Nat.{le-max_left, le-max_right}
-use Rattle.cell_pool.specs.Region.{Block, Region, chunks_of, chunks_in, live_chunks, if_named, block_of, cell_in, cell_of, with_block, with_cell_in, with_cell}
-use Rattle.cell_pool.specs.Chains.{chunk_after, first_of, held, count_of, IsChained}
+use Rattle.cell_pool.specs.Region.{Block, chunks_of, chunks_in, if_named, block_of, cell_in, cell_of}
+use Rattle.cell_pool.specs.Chains.{held}
 use Rattle.cell_pool.specs.Inside.{place_of, cells_from, block_from, blocks_from, region_from, HasCell}
 
 abbrev pub nothing : {C : Type 0} → Option (Block C)
@@ -71,12 +71,14 @@ live_are {C} blank cells next sizes names =
   where
     at : (s : ℕ) → s < length sizes → get_or (map chunks_in (blocks_from blank cells next sizes names)) s 0 ≡ get_or (map held sizes) s 0
     at s l =
-      get_or-map chunks_in (blocks_from blank cells next sizes names) s None 0 (rw length-blocks l)
+        get_or-map chunks_in (blocks_from blank cells next sizes names) s None 0 (rw length-blocks l)
         ∙ ap chunks_in (blocks_at blank cells next sizes names s None l)
         ∙ chunks_at blank cells next (get_or names s 0) s (get_or sizes s 0)
         ∙ sym (get_or-map held sizes s 0 0 l)
+
     long : length (map chunks_in (blocks_from blank cells next sizes names)) ≡ length sizes
     long = length-map (blocks_from blank cells next sizes names) chunks_in ∙ length-blocks blank cells next sizes names
+
     same : map chunks_in (blocks_from blank cells next sizes names) ≡ map held sizes
     same = ext_get_or 0 (map chunks_in (blocks_from blank cells next sizes names)) (map held sizes) (long ∙ sym (length-map sizes held)) (λ s l. at s (rw long at l))
 
@@ -88,11 +90,11 @@ named_block blank cells next sizes names slot name l e p =
 pub live_block : {C : Type 0} (blank : C) (cells : List C) (next sizes names : List ℕ) (slot name : ℕ) → IsSome (block_of (region_from blank cells next sizes names) slot name) → (slot < length sizes) × (0 < get_or sizes slot 0)
 live_block {C} blank cells next sizes names slot name h =
     elim (cases_lt slot (length sizes)) [
-      inl l ↦ elim (cases_eq (get_or sizes slot 0) 0) [
-        inl e ↦ absurd (gone (blocks_at blank cells next sizes names slot None l ∙ block_none blank cells next (get_or names slot 0) slot (get_or sizes slot 0) e))
-      | inr n ↦ (l, omega arith)
+      | inl l ↦ elim (cases_eq (get_or sizes slot 0) 0) [
+        | inl e ↦ absurd (gone (blocks_at blank cells next sizes names slot None l ∙ block_none blank cells next (get_or names slot 0) slot (get_or sizes slot 0) e))
+        | inr n ↦ (l, omega arith)
       ]
-    | inr l ↦ absurd (gone (get_or_past (blocks_from blank cells next sizes names) slot None (rw length-blocks l)))
+      | inr l ↦ absurd (gone (get_or_past (blocks_from blank cells next sizes names) slot None (rw length-blocks l)))
     ]
   where
     gone : get_or (blocks_from blank cells next sizes names) slot None ≡ None → ⊥
@@ -108,30 +110,31 @@ same_number i j e f =
 pub has_cell : {C : Type 0} (blank : C) (cells : List C) (next sizes names : List ℕ) (slot name offset : ℕ) → HasCell sizes names slot name offset → slot < length sizes → cell_of (region_from blank cells next sizes names) slot name offset ≡ Some (get_or cells (place_of next slot offset) blank)
 has_cell blank cells next sizes names slot name offset h l =
     ap (cell_in offset) (named_block blank cells next sizes names slot name l h.is_named (omega (arith, h.is_below)))
-      ∙ slice_get-get_or (cells_from blank cells next slot (get_or sizes slot 0)) offset blank (rw length-cells h.is_below)
-      ∙ ap Some (cells_at blank cells next slot (get_or sizes slot 0) offset blank h.is_below)
+    ∙ slice_get-get_or (cells_from blank cells next slot (get_or sizes slot 0)) offset blank (rw length-cells h.is_below)
+    ∙ ap Some (cells_at blank cells next slot (get_or sizes slot 0) offset blank h.is_below)
 
 pub has_no_cell : {C : Type 0} (blank : C) (cells : List C) (next sizes names : List ℕ) (slot name offset : ℕ) → (HasCell sizes names slot name offset → ⊥) → cell_of (region_from blank cells next sizes names) slot name offset ≡ None
 has_no_cell {C} blank cells next sizes names slot name offset h =
     elim (cases_lt slot (length sizes)) [
-      inl l ↦ elim (cases_eq (get_or sizes slot 0) 0) [
-        inl e ↦ gone (blocks_at blank cells next sizes names slot None l ∙ block_none blank cells next (get_or names slot 0) slot (get_or sizes slot 0) e)
-      | inr n ↦ elim (cases_eq (get_or names slot 0) name) [
-          inl e ↦ ap (cell_in offset) (named_block blank cells next sizes names slot name l e (omega arith)) ∙ slice_get_past (cells_from blank cells next slot (get_or sizes slot 0)) offset (rw length-cells (past e))
-        | inr d ↦ rw (blocks_at blank cells next sizes names slot None l, block_some blank cells next (get_or names slot 0) slot (get_or sizes slot 0) (omega arith), ne_eqb (get_or names slot 0) name d) refl
+      | inl l ↦ elim (cases_eq (get_or sizes slot 0) 0) [
+        | inl e ↦ gone (blocks_at blank cells next sizes names slot None l ∙ block_none blank cells next (get_or names slot 0) slot (get_or sizes slot 0) e)
+        | inr n ↦ elim (cases_eq (get_or names slot 0) name) [
+          | inl e ↦ ap (cell_in offset) (named_block blank cells next sizes names slot name l e (omega arith)) ∙ slice_get_past (cells_from blank cells next slot (get_or sizes slot 0)) offset (rw length-cells (past e))
+          | inr d ↦ rw (blocks_at blank cells next sizes names slot None l, block_some blank cells next (get_or names slot 0) slot (get_or sizes slot 0) (omega arith), ne_eqb (get_or names slot 0) name d) refl
         ]
       ]
-    | inr l ↦ gone (get_or_past (blocks_from blank cells next sizes names) slot None (rw length-blocks l))
+      | inr l ↦ gone (get_or_past (blocks_from blank cells next sizes names) slot None (rw length-blocks l))
     ]
   where
     gone : get_or (blocks_from blank cells next sizes names) slot None ≡ None → cell_of (region_from blank cells next sizes names) slot name offset ≡ None
     gone e = rw e refl
+
     past : get_or names slot 0 ≡ name → get_or sizes slot 0 ≤ offset
     past e =
-      elim (cases_lt offset (get_or sizes slot 0)) [
-        inl l ↦ absurd (h (record { is_named = e; is_below = l }))
-      | inr l ↦ l
-      ]
+        elim (cases_lt offset (get_or sizes slot 0)) [
+          | inl l ↦ absurd (h (record { is_named = e; is_below = l }))
+          | inr l ↦ l
+        ]
 
 pub held_are : (size : ℕ) → 0 < size → (held size ≡ size / 16 + min 1 (size % 16)) × (1 ≤ held size)
 held_are size l =

@@ -1,13 +1,13 @@
 -- A region without blocks.
-use Rattle.std.proofs.Common.{◌≡◌, ℕ, zero, suc, ◌+◌, ◌*◌, ◌^◌, ◌<◌, ◌≤◌, List, [], ◌∷◌, ◌++◌, map, length, get_or, replicate, Some, None, Option, refl, sym, ◌∙◌, ap, inl, inr, arith, add-zero, add-one}
+use Rattle.std.proofs.Common.{◌≡◌, ℕ, zero, suc, ◌+◌, ◌*◌, ◌^◌, ◌<◌, ◌≤◌, List, [], ◌∷◌, ◌++◌, length, get_or, replicate, None, Option, refl, sym, ◌∙◌, inl, inr, arith}
 use Rattle.std.specs.List.{range_with_len, sum_by}
 use Rattle.std.proofs.lemmas.Bool.{cases_lt}
 use Rattle.std.proofs.lemmas.List.{map-id, get_or-replicate, get_or_past, length-replicate, ext_get_or}
 use Rattle.std.proofs.lemmas.List.FromFn.{map-range_with_len_more, length-range_with_len, get_or-range_with_len}
 use Rattle.std.proofs.lemmas.List.Folds.{sum_by-replicate}
 use Rattle.cell_pool.specs.Region.{Block}
-use Rattle.cell_pool.specs.Chains.{chunk_after, first_of, held, count_of, IsChained}
-use Rattle.cell_pool.specs.Inside.{block_from, blocks_from, IsPool}
+use Rattle.cell_pool.specs.Chains.{chunk_after, first_of, held, count_of}
+use Rattle.cell_pool.specs.Inside.{blocks_from, IsPool}
 use Rattle.cell_pool.proofs.Blocks.{length-blocks, blocks_at, block_none, nothing}
 
 pub range_more : (n : ℕ) → range_with_len 1 (n + 1) ≡ range_with_len 1 n ++ (n + 1) ∷ []
@@ -25,8 +25,8 @@ in_row n (suc i) l =
 no_size : (n s : ℕ) → ◌≡◌ {A = ℕ} (get_or (replicate n 0) s 0) 0
 no_size n s =
     elim (cases_lt s n) [
-      inl l ↦ get_or-replicate n s 0 0 l
-    | inr l ↦ get_or_past (replicate n 0) s 0 (rw length-replicate l)
+      | inl l ↦ get_or-replicate n s 0 0 l
+      | inr l ↦ get_or_past (replicate n 0) s 0 (rw length-replicate l)
     ]
 
 no_chunk : (n s i : ℕ) → i < held (get_or (replicate n 0) s 0) → ⊥
@@ -58,11 +58,11 @@ made n cells l e =
 
 at_none : {C : Type 0} (blank : C) (cells : List C) (next : List ℕ) (n s : ℕ) → s < n → get_or (blocks_from blank cells next (replicate n 0) (replicate n 0)) s None ≡ get_or (replicate n None) s None
 at_none {C} blank cells next n s m =
-  rw (blocks_at blank cells next (replicate n 0) (replicate n 0) s None (rw length-replicate m), get_or-replicate {A = Option (Block C)} n s None None m) (block_none blank cells next (get_or (replicate n 0) s 0) s (get_or (replicate n 0) s 0) (no_size n s))
+    rw (blocks_at blank cells next (replicate n 0) (replicate n 0) s None (rw length-replicate m), get_or-replicate {A = Option (Block C)} n s None None m) (block_none blank cells next (get_or (replicate n 0) s 0) s (get_or (replicate n 0) s 0) (no_size n s))
 
 pub no_blocks : {C : Type 0} (blank : C) (cells : List C) (next : List ℕ) (n : ℕ) → blocks_from blank cells next (replicate n 0) (replicate n 0) ≡ replicate n (nothing {C = C})
 no_blocks {C} blank cells next n =
     let long : length (blocks_from blank cells next (replicate n 0) (replicate n 0)) ≡ n = length-blocks blank cells next (replicate n 0) (replicate n 0) ∙ length-replicate {A = ℕ} n 0 in
     ext_get_or None (blocks_from blank cells next (replicate n 0) (replicate n 0)) (replicate n None)
-      (long ∙ sym (length-replicate n (nothing {C = C})))
-      (λ s l. at_none blank cells next n s (rw long at l))
+    (long ∙ sym (length-replicate n (nothing {C = C})))
+    (λ s l. at_none blank cells next n s (rw long at l))

@@ -1,5 +1,5 @@
 -- A region of cells as its callers see it: blocks, each with a name, by the number of the chunk in which they begin.
-use Rattle.std.specs.Prelude.{ℕ, max, Bool, cond, nat_eq, List, Option, Some, None, length, is_some, slice_get, slice_index_or, slice_set, sum_by}
+use Rattle.std.specs.Prelude.{ℕ, max, cond, nat_eq, List, Option, Some, None, length, is_some, slice_get, slice_index_or, slice_set, sum_by}
 use Rattle.std.specs.Int.{div_ceil}
 
 -- a block: its name, and its cells in order
@@ -54,6 +54,6 @@ with_cell_in offset value (Some block) = Some (record { name = block.name; cells
 abbrev pub with_cell : {C : Type 0} → Region C → ℕ → ℕ → ℕ → C → Region C
 with_cell region slot name offset value =
     cond
-      (is_some (cell_of region slot name offset))
-      (with_block region slot (with_cell_in offset value (block_of region slot name)))
-      region
+    (is_some (cell_of region slot name offset))
+    (with_block region slot (with_cell_in offset value (block_of region slot name)))
+    region

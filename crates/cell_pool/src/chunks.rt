@@ -1,6 +1,6 @@
 //! Chains of chunks within a region, and the cells in them.
 
-ghost use Rattle.std.specs.Prelude.{◌≡◌, ℕ, ◌+◌, ◌*◌, ◌/◌, ◌<◌, ◌≤◌, IfOk, MatchOption, length, replicate, slice_index, suc};
+ghost use Rattle.std.specs.Prelude.{◌≡◌, ℕ, ◌+◌, ◌*◌, ◌/◌, ◌<◌, ◌≤◌, IfOk, MatchOption, length, replicate, slice_index};
 ghost use Rattle.std.specs.List.{range_with_len};
 ghost use Rattle.cell_pool.specs.Chains.{chunk_after};
 ghost use Rattle.cell_pool.specs.Inside.{place_of, AreBlankFrom, HasCell, IsCleared};
@@ -73,16 +73,21 @@ pub fn clear<C: Copy>(cells: &mut [C], next: &[u32], first: u32, count: u32, bla
 }
 
 /// Where the cell at an offset of the block with this slot and name lies, if there is such a cell.
-pub fn find(next: &[u32], sizes: &[u32], names: &[u64], slot: u32, name: u64, offset: u32) -> Option<usize>
+pub fn find(
+    next: &[u32],
+    sizes: &[u32],
+    names: &[u64],
+    slot: u32,
+    name: u64,
+    offset: u32,
+) -> Option<usize>
     requires within { (i : ℕ) → i ≤ offset / 16 → offset < slice_index sizes.now slot → chunk_after next.now slot i < length next.now }
     requires named { length names.now ≡ length sizes.now }
     requires small { length next.now ≤ 1048576 }
-    ensures found {
-        MatchOption
-          result
-          (HasCell sizes.now names.now slot name offset → ⊥)
-          (λ place. (place ≡ place_of next.now slot offset) × HasCell sizes.now names.now slot name offset)
-    }
+    ensures found { MatchOption
+        result
+        (HasCell sizes.now names.now slot name offset → ⊥)
+        (λ place. (place ≡ place_of next.now slot offset) × HasCell sizes.now names.now slot name offset) }
 {
     let at = slot as usize;
     if at >= sizes.len() || names[at] != name || offset >= sizes[at] {

@@ -71,11 +71,9 @@ impl<C: Copy> Pool<C> {
         ensures full { IsErr result ↔ (length self.old.blocks < live_chunks self.old + chunks_of cells) }
         ensures same { OnErr result (self.new ≡ self.old) }
         ensures was_free { IfOk result (λ slot. (slot < length self.old.blocks) × (slice_index_or self.old.blocks slot None ≡ None)) }
-        ensures taken {
-            IfOk
-              result
-              (λ slot. self.new ≡ with_block self.old slot (Some (record { name = name; cells = replicate cells self.old.blank })))
-        }
+        ensures taken { IfOk
+            result
+            (λ slot. self.new ≡ with_block self.old slot (Some (record { name = name; cells = replicate cells self.old.blank }))) }
     {
         let wanted = cells.div_ceil(16);
         if self.free < wanted {

@@ -34,7 +34,9 @@ mod tests {
         };
         pool.give(first, 7);
         assert_eq!(rt; pool.live_chunks(), 0);
-        let again = pool.take(9, 40).expect(&rt, "the chunks that were given back");
+        let again = pool
+            .take(9, 40)
+            .expect(&rt, "the chunks that were given back");
         assert_eq!(rt; pool.live_chunks(), 3);
         assert_eq!(rt; pool.get(again, 9, 39), Some(0));
         assert_eq!(rt; pool.get(first, 7, 0), None);

@@ -1,6 +1,6 @@
-use Rattle.std.proofs.Common.{sym, ◌∙◌, ap, arith, refl, ℕ, suc, ◌≡◌, ◌<◌, ◌≤◌, ◌+◌, ◌-◌, ◌/◌, ◌%◌, min, get_or, set, take, drop, length, replicate, List, ◌++◌, Option, Some, None}
+use Rattle.std.proofs.Common.{sym, ◌∙◌, ap, arith, ◌≡◌, ◌<◌, get_or, length, Some}
 use Rattle.std.proofs.lemmas.List.{get_or_read}
-use Rattle.cell_pool.specs.Inside.{place_of, HasCell}
+use Rattle.cell_pool.specs.Inside.{place_of}
 use Rattle.cell_pool.proofs.Blocks.{has_cell, has_no_cell}
 use Rattle.cell_pool.proofs.Changes.{within_block, place_below, slot_below}
 use Rattle.cell_pool.proofs.pool.Pool.get.Goals as goal
@@ -28,5 +28,5 @@ returns-in-Some g c =
     let e : c.in-Some.place ≡ place_of c.self.inside.next.items c.args.slot c.args.offset = f.0 in
     let l : c.in-Some.place < length c.self.inside.cells.items = omega arith in
     rw (← c.self.view_is)
-      (ap Some (get_or_read c.self.inside.cells.items c.in-Some.place c.index.result.now l c.index.ensures c.self.inside.blank ∙ ap (λ t. get_or c.self.inside.cells.items t c.self.inside.blank) e)
-        ∙ sym (has_cell c.self.inside.blank c.self.inside.cells.items c.self.inside.next.items c.self.inside.sizes.items c.self.inside.names.items c.args.slot c.args.name c.args.offset f.1 (slot_below c.self.inside.sizes.items c.args.slot c.args.offset f.1.is_below)))
+    (ap Some (get_or_read c.self.inside.cells.items c.in-Some.place c.index.result.now l c.index.ensures c.self.inside.blank ∙ ap (λ t. get_or c.self.inside.cells.items t c.self.inside.blank) e)
+    ∙ sym (has_cell c.self.inside.blank c.self.inside.cells.items c.self.inside.next.items c.self.inside.sizes.items c.self.inside.names.items c.args.slot c.args.name c.args.offset f.1 (slot_below c.self.inside.sizes.items c.args.slot c.args.offset f.1.is_below)))

@@ -1,7 +1,6 @@
-use Rattle.std.proofs.Common.{sym, ◌∙◌, ap, arith, refl, ℕ, suc, ◌≡◌, ◌<◌, ◌≤◌, ◌+◌, ◌-◌, ◌/◌, ◌%◌, min, get_or, set, take, drop, length, replicate, List, ◌++◌, Option, Some, None}
+use Rattle.std.proofs.Common.{ap, arith, suc, ◌≡◌, ◌<◌, ◌+◌, ◌-◌, ◌/◌, ◌%◌, min, get_or, length}
 use Rattle.std.proofs.lemmas.List.{get_or_read}
 use Rattle.cell_pool.specs.Chains.{chunk_after, held}
-use Rattle.cell_pool.specs.Inside.{blocks_from}
 use Rattle.cell_pool.proofs.Blocks.{held_are, live_block}
 use Rattle.cell_pool.proofs.Changes.{given_pool, given_blocks}
 use Rattle.cell_pool.proofs.pool.Pool.give.Goals as goal

@@ -1,4 +1,4 @@
-use Rattle.std.proofs.Common.{sym, ◌∙◌, ap, arith, refl, ℕ, suc, ◌≡◌, ◌<◌, ◌≤◌, ◌+◌, ◌-◌, ◌/◌, ◌%◌, min, get_or, set, take, drop, length, replicate, List, ◌++◌, Option, Some, None}
+use Rattle.std.proofs.Common.{arith}
 use Rattle.cell_pool.proofs.Blocks.{live_are}
 use Rattle.cell_pool.proofs.pool.Pool.live_chunks.Goals as goal
 

@@ -1,6 +1,6 @@
-use Rattle.std.proofs.Common.{sym, ◌∙◌, ap, arith, refl, ℕ, suc, ◌≡◌, ◌<◌, ◌≤◌, ◌+◌, ◌-◌, ◌/◌, ◌%◌, min, get_or, set, take, drop, length, replicate, List, ◌++◌, Option, Some, None}
+use Rattle.std.proofs.Common.{sym, ap, arith, ◌≡◌, ◌<◌, length}
 use Rattle.std.specs.Option.{is_some}
-use Rattle.cell_pool.specs.Inside.{place_of, HasCell}
+use Rattle.cell_pool.specs.Inside.{place_of}
 use Rattle.cell_pool.proofs.Blocks.{has_cell, has_no_cell}
 use Rattle.cell_pool.proofs.Changes.{within_block, place_below, slot_below, put_cell, put_none}
 use Rattle.cell_pool.proofs.pool.Pool.put.Goals as goal

@@ -1,7 +1,6 @@
-use Rattle.std.proofs.Common.{sym, ◌∙◌, ap, arith, refl, ℕ, suc, ◌≡◌, ◌<◌, ◌≤◌, ◌+◌, ◌-◌, ◌/◌, ◌%◌, min, get_or, set, take, drop, length, replicate, List, ◌++◌, Option, Some, None}
+use Rattle.std.proofs.Common.{ap, arith, refl, ◌≡◌, ◌<◌, ◌+◌, ◌/◌, ◌%◌, min, length}
 use Rattle.std.proofs.lemmas.List.{with_items_is}
-use Rattle.cell_pool.specs.Chains.{chunk_after, held}
-use Rattle.cell_pool.specs.Inside.{IsCleared, blocks_from}
+use Rattle.cell_pool.specs.Chains.{held}
 use Rattle.cell_pool.proofs.Blocks.{held_are}
 use Rattle.cell_pool.proofs.Changes.{head_below, was_free, too_few, enough, taken_pool, taken_blocks}
 use Rattle.cell_pool.proofs.pool.Pool.take.Goals as goal
