@@ -13,7 +13,7 @@ pub struct PoolFull;
 
 /// A region of chunks of 16 cells. A block is a chain of chunks, and so are the free chunks.
 #[derive(Drop)]
-pub struct Pool<C> {
+pub struct Pool<C: Copy> {
     /// The chunk that follows each chunk in its chain.
     next: Vec<u32>,
     /// How many cells the block has that begins in each chunk, 0 where none does.
@@ -29,7 +29,7 @@ pub struct Pool<C> {
     free: u32,
 }
 
-impl<C> Model for Pool<C> {
+impl<C: Copy> Model for Pool<C> {
     ghost use Rattle.std.specs.Prelude.{length};
     ghost use Rattle.cell_pool.specs.Region.{Region};
     ghost use Rattle.cell_pool.specs.Inside.{region_from, IsPool};
