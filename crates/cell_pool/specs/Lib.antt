@@ -1,0 +1,4 @@
+pub mod Chains
+pub mod Inside
+pub mod Laws
+pub mod Region
