@@ -17,6 +17,13 @@ pub(crate) fn expression(alloc: Global, expr: Expr) -> Result<ExprPart, TypeFaul
     Ok(ExprPart::new(alloc, expr)?)
 }
 
+/// The part that holds the lvalue.
+pub(crate) fn place_part(alloc: Global, place: Place_) -> Result<PlacePart, TypeFault>
+    ensures { Gives (Ok place) result }
+{
+    Ok(PlacePart::new(alloc, place)?)
+}
+
 /// The part that holds the type.
 pub(crate) fn type_part(alloc: Global, ctype: CType) -> Result<TypePart, TypeFault>
     ensures { Gives (Ok ctype) result }
@@ -106,7 +113,7 @@ pub(crate) fn at_place(
 ) -> Result<Operand, TypeFault>
     ensures { Gives (Ok (spec.at_place first place ctype)) result }
 {
-    let place = PlacePart::new(alloc, place)?;
+    let place = place_part(alloc, place)?;
     Ok(Operand {
         first,
         what: What::At(place, ctype),
