@@ -11,21 +11,21 @@ use typing_rules::fault::TypeFault;
 use typing_rules::operand::{Operand, Origin, TypePart, Value, What};
 
 /// The part that holds the expression.
-pub(crate) fn expression(alloc: Global, expr: Expr) -> Result<ExprPart, TypeFault>
+pub fn expression(alloc: Global, expr: Expr) -> Result<ExprPart, TypeFault>
     ensures { Gives (Ok expr) result }
 {
     Ok(ExprPart::new(alloc, expr)?)
 }
 
 /// The part that holds the lvalue.
-pub(crate) fn place_part(alloc: Global, place: Place_) -> Result<PlacePart, TypeFault>
+pub fn place_part(alloc: Global, place: Place_) -> Result<PlacePart, TypeFault>
     ensures { Gives (Ok place) result }
 {
     Ok(PlacePart::new(alloc, place)?)
 }
 
 /// The part that holds the type.
-pub(crate) fn type_part(alloc: Global, ctype: CType) -> Result<TypePart, TypeFault>
+pub fn type_part(alloc: Global, ctype: CType) -> Result<TypePart, TypeFault>
     ensures { Gives (Ok ctype) result }
 {
     Ok(TypePart::new(alloc, ctype)?)
@@ -51,7 +51,7 @@ pub fn copied(alloc: Global, t: &CType) -> Result<TypePart, TypeFault>
 }
 
 /// The type of a pointer to the type.
-pub(crate) fn pointer(alloc: Global, t: &CType) -> Result<TypePart, TypeFault>
+pub fn pointer(alloc: Global, t: &CType) -> Result<TypePart, TypeFault>
     ensures { Gives (Ok (CType.Pointer t.now)) result }
 {
     let to = copied(alloc, t)?;
@@ -59,7 +59,7 @@ pub(crate) fn pointer(alloc: Global, t: &CType) -> Result<TypePart, TypeFault>
 }
 
 /// A value of this origin as an operand.
-pub(crate) fn made_from(
+pub fn made_from(
     alloc: Global,
     origin: Origin,
     first: Place,
@@ -76,7 +76,7 @@ pub(crate) fn made_from(
 }
 
 /// A value as an operand, whose origin no rule asks for.
-pub(crate) fn made(
+pub fn made(
     alloc: Global,
     first: Place,
     expr: Expr,
@@ -88,7 +88,7 @@ pub(crate) fn made(
 }
 
 /// A value of an integer type as an operand.
-pub(crate) fn integer(
+pub fn integer(
     alloc: Global,
     first: Place,
     expr: Expr,
@@ -105,7 +105,7 @@ pub(crate) fn integer(
 }
 
 /// An lvalue as an operand.
-pub(crate) fn at_place(
+pub fn at_place(
     alloc: Global,
     first: Place,
     place: Place_,
@@ -121,7 +121,7 @@ pub(crate) fn at_place(
 }
 
 /// A value, whose origin no rule asks for.
-pub(crate) fn plain_value(
+pub fn plain_value(
     alloc: Global,
     first: Place,
     expr: Expr,

@@ -8,7 +8,7 @@ use core_types::cells;
 use step_meaning::{CType, Layout};
 
 /// The cells of an object of the type, which are counted in 32 bits.
-pub(crate) fn object_size(layouts: &[Layout], t: &CType) -> u32
+pub fn object_size(layouts: &[Layout], t: &CType) -> u32
     requires { cells_of layouts.now t.now < 2 ^ 32 }
     ensures { result ≡ cells_of layouts.now t.now }
 {
@@ -20,7 +20,7 @@ pub(crate) fn object_size(layouts: &[Layout], t: &CType) -> u32
 
 /// The cells of what a pointer of the type points to, which are counted in 32 bits; 0 where the type is no pointer.
 #[tactic(auto, using(crate::proofs::Pointers::units))]
-pub(crate) fn unit(layouts: &[Layout], t: &CType) -> u32
+pub fn unit(layouts: &[Layout], t: &CType) -> u32
     requires { rules.unit layouts.now t.now < 2 ^ 32 }
     ensures { result ≡ rules.unit layouts.now t.now }
 {

@@ -189,7 +189,7 @@ pub fn address(alloc: Global, at: Place, a: Operand) -> Result<Operand, TypeFaul
     }
 }
 
-pub(crate) fn is_void(t: &CType) -> bool
+pub fn is_void(t: &CType) -> bool
     ensures { result ≡ types.is_void t.now }
 {
     matches!(t, CType::Void)

@@ -2,11 +2,11 @@
 
 ghost use Rattle.std.specs.Prelude.{◌≡◌, ◌<◌, ◌^◌, length, take, sum_by, Ok};
 ghost use Rattle.step_meaning.specs.TypeRules.{cells as cells_of};
-ghost use Rattle.typing_operands.specs.Parts.{OffsetsFit, MemberOffsetsFit, member_result};
+ghost use Rattle.typing_objects.specs.Parts.{OffsetsFit, MemberOffsetsFit, member_result};
 ghost use Rattle.typing_rules.specs.Checked.{Gives};
 ghost use Rattle.typing_rules.specs.Subobjects as rules;
 
-use crate::part::{at_place, copied, place_part};
+use typing_operands::part::{at_place, copied, place_part};
 use c_lexer::Place;
 use core_types::{member_named, member_offset};
 use std::alloc::Global;
@@ -86,7 +86,7 @@ fn struct_member(
 }
 
 /// The member of the object at the place, whose type is a struct.
-#[tactic(auto, using(crate::proofs::Pointers::members))]
+#[tactic(auto, using(crate::proofs::Objects::members))]
 fn of_struct(
     alloc: Global,
     layouts: &[Layout],
@@ -140,7 +140,7 @@ pub fn dot(
 }
 
 /// `a->name`, with the operator and the name at these places: a pointer to a struct on the left (C11 6.5.2.3).
-#[tactic(auto, using(crate::proofs::Pointers::arrows), unfolding(typing_rules::specs::Subobjects::arrow))]
+#[tactic(auto, using(crate::proofs::Objects::arrows), unfolding(typing_rules::specs::Subobjects::arrow))]
 pub fn arrow(
     alloc: Global,
     layouts: &[Layout],

@@ -1,25 +1,29 @@
 -- What code holds between two rules, as the rules see it.
-use Rattle.std.specs.Prelude.{◌≡◌, ℕ, ◌<◌, ◌^◌, List, Option, Some, Ok, Err}
+use Rattle.std.specs.Prelude.{◌≡◌, ℕ, ◌<◌, ◌^◌, Bool, ◌&&◌, nat_lt, if◌then◌else◌, List, Option, Some, Ok, Err}
+use Rattle.step_meaning.specs.declared.value.CType.{CType}
+use Rattle.step_meaning.specs.declared.value.CType.TheVariants.{Struct}
 use Rattle.step_meaning.specs.declared.program.Layout.{Layout}
-use Rattle.step_meaning.specs.TypeRules.{cells}
+use Rattle.step_meaning.specs.ExpressionTypes.{pointer_to}
+use Rattle.step_meaning.specs.TypeRules.{cells, is_spelled, is_object_type}
 use Rattle.c_lexer.specs.declared.token.Place.{Place}
 use Rattle.step_meaning.specs.declared.expr.Answer.TheVariants.{After}
 use Rattle.step_meaning.specs.declared.expr.Expr.TheVariants as e
 use Rattle.step_meaning.specs.declared.expr.Place_.{Place_}
 use Rattle.step_meaning.specs.declared.program.Declared.{Declared}
-use Rattle.typing_rules.specs.declared.fault.TypeFault.TheVariants.{Unknown}
+use Rattle.typing_rules.specs.declared.fault.TypeFault.TheVariants.{Mismatch, Unknown}
 use Rattle.typing_rules.specs.declared.judgement.CompoundOperation.{CompoundOperation}
 use Rattle.typing_rules.specs.declared.operand.Operand.{Operand}
 use Rattle.typing_rules.specs.declared.operand.Value.{Value}
 use Rattle.typing_rules.specs.Assignments.{target, updated}
 use Rattle.typing_rules.specs.Checked.{Checked, ◌>>=◌, kept}
-use Rattle.typing_rules.specs.Operands.{at_place}
+use Rattle.typing_rules.specs.Operands.{at_place, made_from}
+use Rattle.typing_rules.specs.declared.operand.Origin.TheVariants.{Allocation}
 use Rattle.typing_rules.specs.Allocation as allocation
 use Rattle.typing_rules.specs.Operators.{unit}
 use Rattle.typing_rules.specs.Subobjects as subobjects
-use Rattle.typing_operands.specs.declared.allocation.Request.{Request}
-use Rattle.typing_operands.specs.declared.subobject.Base.{Base}
-use Rattle.typing_operands.specs.declared.subobject.Base.TheVariants.{InArray, BehindPointer}
+use Rattle.typing_objects.specs.declared.allocation.Request.{Request}
+use Rattle.typing_objects.specs.declared.subobject.Base.{Base}
+use Rattle.typing_objects.specs.declared.subobject.Base.TheVariants.{InArray, BehindPointer}
 
 -- ---- what stands before `[ ]`
 
@@ -44,6 +48,15 @@ request q = record { count = q.count; ctype = q.ctype }
 abbrev pub request_result : Checked Request → Checked allocation.Request
 request_result (Ok q) = Ok (request q)
 request_result (Err e) = Err e
+
+-- whether a pointer to the type is the type of an object: a struct is declared, and what is no struct has objects itself
+abbrev pub behind_pointer : ℕ → Bool → CType → Bool
+behind_pointer declared otherwise (Struct n) = nat_lt n declared
+behind_pointer declared otherwise t = otherwise
+
+-- a call of `malloc` where these structs are complete and so many are declared: `allocated` of each environment that has them
+abbrev pub allocated_in : List Layout → ℕ → Place → allocation.Request → Checked Operand
+allocated_in layouts declared at q = if is_spelled q.ctype && is_object_type layouts declared q.ctype then Ok (made_from Allocation at (e.Malloc q.count q.ctype) (pointer_to q.ctype)) else Err (Mismatch at)
 
 -- ---- compound assignments
 

@@ -1,18 +1,19 @@
 //! Calls of `malloc` and `free`, and of `putchar` (C11 7.22.3.4, 7.22.3.3, 7.21.7.8).
 
 ghost use Rattle.std.specs.Prelude.{◌≡◌, if◌then◌else◌, pos, Ok, Err};
-ghost use Rattle.typing_operands.specs.Parts.{request_result};
+ghost use Rattle.typing_objects.specs.Parts.{allocated_in, request, request_result};
 ghost use Rattle.typing_rules.specs.Allocation as rules;
 ghost use Rattle.typing_rules.specs.Checked.{Gives};
 ghost use Rattle.typing_rules.specs.Operands as spec;
 ghost use Rattle.step_meaning.specs.ExpressionTypes as types;
 
-use crate::conversion::brought;
-use crate::part::{expression, made, made_from, pointer, type_part};
+use typing_operands::conversion::brought;
+use typing_operands::part::{expression, made, made_from, pointer, type_part};
+use crate::allocated_type::is_allocated;
 use crate::subobject::is_integer_shape;
 use c_lexer::Place;
 use std::alloc::Global;
-use step_meaning::{CType, Expr, ExprPart, IntKind};
+use step_meaning::{CType, Expr, ExprPart, IntKind, Layout};
 use typing_rules::fault::TypeFault;
 use typing_rules::judgement::{is_null, is_pointer, shape_of};
 use typing_rules::operand::{Operand, Origin, TypePart, Value};
@@ -47,7 +48,7 @@ pub fn objects(alloc: Global, at: Place, v: Value, ctype: TypePart) -> Result<Re
 }
 
 /// A pointer to the objects that are asked for.
-#[tactic(auto, using(crate::proofs::Pointers::pointer))]
+#[tactic(auto, using(typing_operands::proofs::Pointers::pointer))]
 fn block(alloc: Global, at: Place, q: Request) -> Result<Operand, TypeFault>
     ensures { Gives (Ok (spec.made_from Origin.Allocation at (Expr.Malloc q.count q.ctype) (types.pointer_to q.ctype))) result }
 {
@@ -61,16 +62,17 @@ fn block(alloc: Global, at: Place, q: Request) -> Result<Operand, TypeFault>
     )
 }
 
-/// A call of `malloc`, with the name at this place, of objects whose type may be allocated or not (C11 7.22.3.4).
+/// A call of `malloc`, with the name at this place, where these structs are complete and so many are declared (C11 7.22.3.4).
 pub fn allocated(
     alloc: Global,
+    layouts: &[Layout],
+    declared: usize,
     at: Place,
-    is_allocated: bool,
     q: Request,
 ) -> Result<Operand, TypeFault>
-    ensures { Gives (if is_allocated then Ok (spec.made_from Origin.Allocation at (Expr.Malloc q.count q.ctype) (types.pointer_to q.ctype)) else Err (TypeFault.Mismatch at)) result }
+    ensures { Gives (allocated_in layouts.now declared at (request q)) result }
 {
-    if is_allocated {
+    if is_allocated(layouts, declared, q.ctype.get()) {
         block(alloc, at, q)
     } else {
         Err(TypeFault::Mismatch(at))
@@ -106,14 +108,14 @@ pub fn freed(alloc: Global, at: Place, v: Value) -> Result<Operand, TypeFault>
 }
 
 /// A call of `getchar`, with the name at this place, whose value has this type (C11 7.21.7.6).
-pub fn read(alloc: Global, at: Place, ctype: TypePart) -> Result<Operand, TypeFault>
+pub fn getchar(alloc: Global, at: Place, ctype: TypePart) -> Result<Operand, TypeFault>
     ensures { Gives (Ok (spec.made at Expr.GetChar ctype)) result }
 {
     made(alloc, at, Expr::GetChar, ctype)
 }
 
 /// A call of `putchar` of the argument, with the name at this place, whose value has this type (C11 7.21.7.8).
-pub fn written(alloc: Global, at: Place, x: ExprPart, ctype: TypePart) -> Result<Operand, TypeFault>
+pub fn putchar(alloc: Global, at: Place, x: ExprPart, ctype: TypePart) -> Result<Operand, TypeFault>
     ensures { Gives (Ok (spec.made at (Expr.PutChar x) ctype)) result }
 {
     made(alloc, at, Expr::PutChar(x.into_boxed()), ctype)

@@ -1,7 +1,7 @@
 //! Assignments, compound assignments, `++` and `--` (C11 6.5.16, 6.5.2.4, 6.5.3.1).
 
 ghost use Rattle.std.specs.Prelude.{◌≡◌, ◌<◌, ◌^◌, pos, Ok};
-ghost use Rattle.typing_operands.specs.Parts.{updated_at};
+ghost use Rattle.typing_objects.specs.Parts.{updated_at};
 ghost use Rattle.typing_rules.specs.Allocation.{type_of_object};
 ghost use Rattle.typing_rules.specs.Assignments as rules;
 ghost use Rattle.typing_rules.specs.Checked.{Gives};
@@ -10,9 +10,9 @@ ghost use Rattle.typing_rules.specs.Operands as spec;
 ghost use Rattle.typing_rules.specs.Operators.{unit as unit_of};
 ghost use Rattle.step_meaning.specs.ExpressionTypes as types;
 
-use crate::conversion::{brought, fitted};
-use crate::part::{copied, made, plain_value, type_part};
-use crate::size::unit;
+use typing_operands::conversion::{brought, fitted};
+use typing_operands::part::{copied, made, plain_value, type_part};
+use typing_operands::size::unit;
 use c_lexer::Place;
 use std::alloc::Global;
 use step_meaning::{Answer, CType, Expr, ExprPart, IntKind, IntOp, Layout, PlacePart, UpdateOp};
@@ -171,7 +171,7 @@ fn shape_behind(t: &CType) -> Shape
 }
 
 /// The shape of the type in a sum, where an array stands as a pointer.
-#[tactic(auto, using(crate::proofs::Pointers::decays))]
+#[tactic(auto, using(crate::proofs::Objects::decays))]
 fn decayed_shape(t: &CType) -> Shape
     ensures { result ≡ judgements.shape (rules.decayed t.now) }
 {

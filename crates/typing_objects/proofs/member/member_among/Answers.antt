@@ -4,9 +4,9 @@ use Rattle.std.specs.Str.{bytes_eq}
 use Rattle.std.proofs.lemmas.List.Quantifiers.{position-Some}
 use Rattle.std.proofs.lemmas.Option.{slice_get_read}
 use Rattle.typing_rules.specs.Checked.{Gives, kept}
-use Rattle.typing_operands.specs.Parts.{member_result}
-use Rattle.typing_operands.proofs.Members.{numbered, named_at, offset_is_small}
-use Rattle.typing_operands.proofs.member.member_among.Goals as goal
+use Rattle.typing_objects.specs.Parts.{member_result}
+use Rattle.typing_objects.proofs.Members.{numbered, named_at, offset_is_small}
+use Rattle.typing_objects.proofs.member.member_among.Goals as goal
 
 pub offset_of-offset-requires-clause-small : goal.offset_of-offset-requires-clause-small
 offset_of-offset-requires-clause-small c = offset_is_small c.args.layouts.now c.args.name.now c.args.members.now c.in-Some.index c.requires (sym c.member_named.ensures ∙ c.in-Some.is)

@@ -1,9 +1,9 @@
 use Rattle.std.proofs.Common.{◌≡◌, sym, ap, subst, ◌∙◌}
 use Rattle.typing_rules.specs.Checked.{Gives}
 use Rattle.typing_rules.specs.Subobjects.{before_index}
-use Rattle.typing_operands.specs.Parts.{base_result}
-use Rattle.typing_operands.proofs.Pointers.{array_base, base-Array}
-use Rattle.typing_operands.proofs.subobject.object_before_index.Goals as goal
+use Rattle.typing_objects.specs.Parts.{base_result}
+use Rattle.typing_objects.proofs.Objects.{array_base, base-Array}
+use Rattle.typing_objects.proofs.subobject.object_before_index.Goals as goal
 
 pub returns-in-Array : goal.returns-in-Array
 returns-in-Array c =

@@ -1,7 +1,7 @@
 //! Elements of arrays (C11 6.5.2.1).
 
 ghost use Rattle.std.specs.Prelude.{◌≡◌, ◌<◌, ◌^◌, if◌then◌else◌, Ok, Err};
-ghost use Rattle.typing_operands.specs.Parts.{base, base_result, stride};
+ghost use Rattle.typing_objects.specs.Parts.{base, base_result, stride};
 ghost use Rattle.typing_rules.specs.Checked.{Gives};
 ghost use Rattle.typing_rules.specs.Judgements as judgements;
 ghost use Rattle.typing_rules.specs.Operands as spec;
@@ -10,10 +10,10 @@ ghost use Rattle.typing_rules.specs.Subobjects as rules;
 ghost use Rattle.step_meaning.specs.ExpressionTypes as types;
 ghost use Rattle.step_meaning.specs.TypeRules.{cells as cells_of};
 
-use crate::part::{at_place, copied, expression};
-use crate::size::object_size;
-use crate::unary::is_void;
-use crate::value::loaded;
+use typing_operands::part::{at_place, copied, expression};
+use typing_operands::size::object_size;
+use typing_operands::unary::is_void;
+use typing_operands::value::loaded;
 use c_lexer::Place;
 use std::alloc::Global;
 use step_meaning::{CType, Expr, ExprPart, Layout, Place_, PlacePart, Side};
@@ -43,7 +43,7 @@ fn in_array(alloc: Global, place: PlacePart, element: &CType) -> Result<Base, Ty
 }
 
 /// An object before `[ ]`.
-#[tactic(auto, using(crate::proofs::Pointers::bases))]
+#[tactic(auto, using(crate::proofs::Objects::bases))]
 fn object_before_index(
     alloc: Global,
     _layouts: &[Layout],
@@ -139,7 +139,7 @@ fn behind(
     }
 }
 
-#[tactic(auto, using(crate::proofs::Pointers::elements, crate::proofs::Pointers::units))]
+#[tactic(auto, using(crate::proofs::Objects::elements, typing_operands::proofs::Pointers::units))]
 fn behind_value(
     alloc: Global,
     layouts: &[Layout],

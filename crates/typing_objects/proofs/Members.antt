@@ -8,7 +8,7 @@ use Rattle.step_meaning.specs.declared.program.Declared.{Declared}
 use Rattle.step_meaning.specs.declared.program.Layout.{Layout}
 use Rattle.step_meaning.specs.TypeRules.{cells}
 use Rattle.typing_rules.specs.Subobjects.{Member, member_among, member_of}
-use Rattle.typing_operands.specs.Parts.{MemberOffsetsFit}
+use Rattle.typing_objects.specs.Parts.{MemberOffsetsFit}
 
 none_is_not_some : {A B : Type 0} {a : A} → None ≡ Some a → B
 none_is_not_some e = absurd (no e)
