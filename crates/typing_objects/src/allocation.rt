@@ -7,13 +7,13 @@ ghost use Rattle.typing_rules.specs.Checked.{Gives};
 ghost use Rattle.typing_rules.specs.Operands as spec;
 ghost use Rattle.step_meaning.specs.ExpressionTypes as types;
 
-use typing_operands::conversion::brought;
-use typing_operands::part::{expression, made, made_from, pointer, type_part};
 use crate::allocated_type::is_allocated;
 use crate::subobject::is_integer_shape;
 use c_lexer::Place;
 use std::alloc::Global;
 use step_meaning::{CType, Expr, ExprPart, IntKind, Layout};
+use typing_operands::conversion::brought;
+use typing_operands::part::{expression, made, made_from, pointer, type_part};
 use typing_rules::fault::TypeFault;
 use typing_rules::judgement::{is_null, is_pointer, shape_of};
 use typing_rules::operand::{Operand, Origin, TypePart, Value};

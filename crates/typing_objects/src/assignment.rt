@@ -10,12 +10,12 @@ ghost use Rattle.typing_rules.specs.Operands as spec;
 ghost use Rattle.typing_rules.specs.Operators.{unit as unit_of};
 ghost use Rattle.step_meaning.specs.ExpressionTypes as types;
 
-use typing_operands::conversion::{brought, fitted};
-use typing_operands::part::{copied, made, plain_value, type_part};
-use typing_operands::size::unit;
 use c_lexer::Place;
 use std::alloc::Global;
 use step_meaning::{Answer, CType, Expr, ExprPart, IntKind, IntOp, Layout, PlacePart, UpdateOp};
+use typing_operands::conversion::{brought, fitted};
+use typing_operands::part::{copied, made, plain_value, type_part};
+use typing_operands::size::unit;
 use typing_rules::fault::TypeFault;
 use typing_rules::judgement::{
     CompoundOperation, Shape, compound_operation, is_scalar_shape, shape_of,

@@ -6,11 +6,11 @@ ghost use Rattle.typing_objects.specs.Parts.{OffsetsFit, MemberOffsetsFit, membe
 ghost use Rattle.typing_rules.specs.Checked.{Gives};
 ghost use Rattle.typing_rules.specs.Subobjects as rules;
 
-use typing_operands::part::{at_place, copied, place_part};
 use c_lexer::Place;
 use core_types::{member_named, member_offset};
 use std::alloc::Global;
 use step_meaning::{CType, Declared, Layout, Place_, PlacePart};
+use typing_operands::part::{at_place, copied, place_part};
 use typing_rules::fault::TypeFault;
 use typing_rules::operand::{Operand, Value, What};
 

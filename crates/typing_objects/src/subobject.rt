@@ -10,13 +10,13 @@ ghost use Rattle.typing_rules.specs.Subobjects as rules;
 ghost use Rattle.step_meaning.specs.ExpressionTypes as types;
 ghost use Rattle.step_meaning.specs.TypeRules.{cells as cells_of};
 
+use c_lexer::Place;
+use std::alloc::Global;
+use step_meaning::{CType, Expr, ExprPart, Layout, Place_, PlacePart, Side};
 use typing_operands::part::{at_place, copied, expression};
 use typing_operands::size::object_size;
 use typing_operands::unary::is_void;
 use typing_operands::value::loaded;
-use c_lexer::Place;
-use std::alloc::Global;
-use step_meaning::{CType, Expr, ExprPart, Layout, Place_, PlacePart, Side};
 use typing_rules::fault::TypeFault;
 use typing_rules::judgement::{Shape, shape_of};
 use typing_rules::operand::{Operand, TypePart, Value, What};

@@ -76,24 +76,14 @@ pub fn made_from(
 }
 
 /// A value as an operand, whose origin no rule asks for.
-pub fn made(
-    alloc: Global,
-    first: Place,
-    expr: Expr,
-    ctype: TypePart,
-) -> Result<Operand, TypeFault>
+pub fn made(alloc: Global, first: Place, expr: Expr, ctype: TypePart) -> Result<Operand, TypeFault>
     ensures { Gives (Ok (spec.made first expr ctype)) result }
 {
     made_from(alloc, Origin::Other, first, expr, ctype)
 }
 
 /// A value of an integer type as an operand.
-pub fn integer(
-    alloc: Global,
-    first: Place,
-    expr: Expr,
-    kind: IntKind,
-) -> Result<Operand, TypeFault>
+pub fn integer(alloc: Global, first: Place, expr: Expr, kind: IntKind) -> Result<Operand, TypeFault>
     ensures { Gives (Ok (spec.made first expr (CType.Int kind))) result }
 {
     let expr = expression(alloc, expr)?;
