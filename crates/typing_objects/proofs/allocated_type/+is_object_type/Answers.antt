@@ -1,4 +1,4 @@
-use Rattle.std.proofs.Common.{◌≡◌, sym, ap, ◌∙◌}
+use Rattle.std.proofs.Common.{sym, ap, ◌∙◌}
 use Rattle.step_meaning.specs.TypeRules.{is_object_type}
 use Rattle.typing_objects.specs.Parts.{behind_pointer}
 use Rattle.typing_objects.proofs.ObjectTypes.{object-Pointer}

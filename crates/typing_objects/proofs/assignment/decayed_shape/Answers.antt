@@ -1,4 +1,4 @@
-use Rattle.std.proofs.Common.{◌≡◌, sym, ap, ◌∙◌}
+use Rattle.std.proofs.Common.{sym, ap, ◌∙◌}
 use Rattle.step_meaning.specs.ExpressionTypes.{pointer_to}
 use Rattle.typing_rules.specs.Assignments.{decayed}
 use Rattle.typing_rules.specs.Judgements.{shape}

@@ -2,7 +2,7 @@ use Rattle.std.proofs.Common.{◌≡◌, ◌≤◌, length, get_or, None, Some, 
 use Rattle.std.specs.Prelude.{slice_get}
 use Rattle.std.proofs.lemmas.Option.{slice_get-get_or, slice_get_past}
 use Rattle.typing_rules.specs.Checked.{Gives, kept}
-use Rattle.typing_rules.specs.Subobjects.{member_among, member_of}
+use Rattle.typing_rules.specs.Subobjects.{member_among}
 use Rattle.typing_objects.specs.Parts.{member_result}
 use Rattle.typing_objects.proofs.Members.{of_struct_at, of_no_struct}
 use Rattle.typing_objects.proofs.member.struct_member.Goals as goal
