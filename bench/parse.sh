@@ -8,11 +8,11 @@ top=$(pwd)
 folder=$(mktemp -d)
 trap 'rm -rf "$folder"' EXIT
 mkdir -p "$folder/crates/parse_bench/src" "$folder/crates/parse_bench/data"
-for crate in c_lexer c_grammar c_type_names c_grouping c_nesting c_expressions c_declarations c_statements c_parser weave_base; do
+for crate in c_lexer c_words c_grammar c_type_names c_grouping c_nesting c_expressions c_declarations c_statements c_parser weave_base; do
   cp -r "$top/crates/$crate" "$folder/crates/"
 done
-grep -E '^(weave_base|c_lexer|c_grammar|c_type_names|c_grouping|c_nesting|c_expressions|c_declarations|c_statements|c_parser):' "$top/crates.txt" > "$folder/crates.txt"
-echo 'parse_bench: c_grammar c_lexer c_parser weave_base' >> "$folder/crates.txt"
+grep -E '^(weave_base|c_lexer|c_words|c_grammar|c_type_names|c_grouping|c_nesting|c_expressions|c_declarations|c_statements|c_parser):' "$top/crates.txt" > "$folder/crates.txt"
+echo 'parse_bench: c_grammar c_words c_lexer c_parser weave_base' >> "$folder/crates.txt"
 cat > "$folder/crates/parse_bench/src/main.rt" <<'P'
 //! Counts the items of the C text in the file `p.c`; a woven text begins with `/`.
 #![tactic(auto)]
