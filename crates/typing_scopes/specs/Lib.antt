@@ -1,0 +1,4 @@
+pub mod Blocks
+pub mod States
+pub mod Known
+pub mod Found
