@@ -2,12 +2,9 @@
 use Rattle.std.specs.Prelude.{ℕ, List, [], ◌∷◌, ◌++◌, length}
 use Rattle.step_meaning.specs.declared.value.CType.{CType}
 use Rattle.step_meaning.specs.declared.program.Declared.{Declared as Named}
-use Rattle.step_meaning.specs.declared.program.Function.{Function as CoreFunction}
-use Rattle.typing_rules.specs.declared.operand.Entry.TheVariants as entry
 use Rattle.typing_rules.specs.Environment.{Environment, Scope}
 use Rattle.typing_rules.specs.FileScope.{Program, file_scope}
-use Rattle.typing_rules.specs.Functions.{declared_name}
-use Rattle.typing_rules.specs.Statements.{Frame, with_name, innermost, tail}
+use Rattle.typing_rules.specs.Statements.{Frame, with_name}
 use Rattle.typing_scopes.specs.Blocks.{local_variable}
 
 pub record State : Type 0 where

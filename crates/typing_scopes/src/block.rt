@@ -29,8 +29,12 @@ pub struct Block<'t> {
 impl<'t> Model for Block<'t> {
     ghost use Rattle.std.specs.Prelude.{◌≡◌, length};
     ghost use Rattle.typing_rules.specs.Environment.{Scope};
+    ghost use Rattle.step_meaning.specs.contracts.value.CType as ctype;
+    ghost use Rattle.std.specs.Coded.{codes};
 
     ghost Value = { Scope };
+
+    ghost coded = { Prim.hlevel (codes, ctype.the_row.coded) };
 
     ghost use Rattle.typing_scopes.specs.Blocks.{scope_of};
 

@@ -1,6 +1,6 @@
 //! The functions that have a body.
 
-ghost use Rattle.std.specs.Prelude.{◌≡◌, [], ◌∷◌, ◌++◌, IfErr, OnOk};
+ghost use Rattle.std.specs.Prelude.{◌≡◌, [], ◌∷◌, ◌++◌, IfErr, OnOk, OnErr};
 ghost use Rattle.typing_rules.specs.Environment.{contains};
 
 use crate::names::Names;
@@ -26,6 +26,17 @@ impl<'t> Model for Bodies<'t> {
     ghost invariant = { λ b. (name : List ℕ) → contains b.names name ≡ contains (map (λ x. x.now) b.all.items) name };
 }
 
+fn append<'t>(all: &mut Vec<&'t [u8]>, name: &'t [u8]) -> Result<(), TypeFault>
+    ensures ok { OnOk result (all.new.items ≡ all.old.items ++ name.entry ∷ []) }
+    ensures err { OnErr result (all.new.items ≡ all.old.items) }
+    ensures fault { IfErr result (λ fault. fault ≡ TypeFault.Memory) }
+{
+    match all.push(name) {
+        Ok(()) => Ok(()),
+        Err(_) => Err(TypeFault::Memory),
+    }
+}
+
 impl<'t> Bodies<'t> {
     pub fn new(alloc: Global) -> Bodies<'t>
         ensures { result ≡ [] }
@@ -48,7 +59,7 @@ impl<'t> Bodies<'t> {
         ensures ok { OnOk result (self.new ≡ self.old ++ name.now ∷ []) }
         ensures fault { IfErr result (λ fault. fault ≡ TypeFault.Memory) }
     {
-        self.all.push(name).map_err(|_| TypeFault::Memory)?;
+        append(&mut self.all, name)?;
         if self.names.has(name) {
             return Ok(());
         }

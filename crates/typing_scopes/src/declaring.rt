@@ -15,8 +15,7 @@ use crate::block::{Block, BlockLocal};
 use crate::known::Known;
 use sqlite_items::Items;
 use std::alloc::Global;
-use std::mem;
-use std::str;
+use std::{mem, str};
 use step_meaning::{Declared, Function, Layout, Text, Value};
 use typing_operands::part::copied;
 use typing_rules::fault::TypeFault;
@@ -157,30 +156,44 @@ impl<'t> Known<'t> {
         let _block = self.blocks.pop();
     }
 
-    /// A name of the innermost block, or of a first block where there is none.
-    fn declare(
+    /// A name of the innermost block.
+    fn declare_in_block(&mut self, name: &'t [u8], local: BlockLocal) -> Result<(), TypeFault>
+        requires open { 0 < length self.old.blocks.items }
+        requires new { is_some (rules.found_in (innermost (frame self.old).scopes) name.now) ≡ false }
+        ensures { OnOk result (state self.new ≡ record (state self.old) { frame = record (frame self.old) { scopes = with_name name.now (local_variable local.index) local.ctype (frame self.old).scopes } }) }
+    {
+        let last = self.blocks.len() - 1;
+        self.blocks[last].push(name, local)
+    }
+
+    /// A name of a first block.
+    fn declare_in_first(
         &mut self,
         alloc: Global,
         name: &'t [u8],
         local: BlockLocal,
     ) -> Result<(), TypeFault>
+        requires { length self.old.blocks.items ≡ 0 }
+        ensures { OnOk result (state self.new ≡ record (state self.old) { frame = record (frame self.old) { scopes = with_name name.now (local_variable local.index) local.ctype (frame self.old).scopes } }) }
+    {
+        self.open_block(alloc)?;
+        self.declare_in_block(name, local)
+    }
+
+    /// A name of the innermost block, or of a first block where there is none.
+    fn declare(&mut self, alloc: Global, name: &'t [u8], local: BlockLocal) -> Result<(), TypeFault>
         requires { is_some (rules.found_in (innermost (frame self.old).scopes) name.now) ≡ false }
         ensures { OnOk result (state self.new ≡ record (state self.old) { frame = record (frame self.old) { scopes = with_name name.now (local_variable local.index) local.ctype (frame self.old).scopes } }) }
     {
         if self.blocks.is_empty() {
-            self.open_block(alloc)?;
+            self.declare_in_first(alloc, name, local)
+        } else {
+            self.declare_in_block(name, local)
         }
-        let last = self.blocks.len() - 1;
-        self.blocks[last].push(name, local)
     }
 
     /// The number of the next local, and one more local without a name in any scope.
-    fn next_local(
-        &mut self,
-        alloc: Global,
-        name: &[u8],
-        ctype: TypePart,
-    ) -> Result<u32, TypeFault>
+    fn next_local(&mut self, alloc: Global, name: &[u8], ctype: TypePart) -> Result<u32, TypeFault>
         ensures number { IfOk result (λ n. n ≡ length (frame self.old).locals) }
         ensures added { OnOk result (state self.new ≡ record (state self.old) { frame = record (frame self.old) { locals = (frame self.old).locals ++ named name.now ctype ∷ [] } }) }
     {
@@ -206,7 +219,14 @@ impl<'t> Known<'t> {
     {
         let again = copied(alloc, ctype.get())?;
         let index = self.next_local(alloc, name, ctype)?;
-        self.declare(alloc, name, BlockLocal { index, ctype: again })?;
+        self.declare(
+            alloc,
+            name,
+            BlockLocal {
+                index,
+                ctype: again,
+            },
+        )?;
         Ok(index)
     }
 

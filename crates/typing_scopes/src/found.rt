@@ -104,9 +104,9 @@ impl<'t> Known<'t> {
     pub fn is_in_block(&self, name: &[u8]) -> bool
         ensures { result ≡ is_some (rules.found_in (innermost (frame self.now).scopes) name.now) }
     {
-        match self.blocks.last() {
+        match self.blocks.as_slice().split_last() {
             None => false,
-            Some(block) => block.has(name),
+            Some((block, _)) => block.has(name),
         }
     }
 

@@ -42,9 +42,9 @@ impl<'t> Known<'t> {
     /// What is known before any item, in a text whose functions aren't known yet.
     pub fn new(alloc: Global, mode: Mode, text: &'t [u8]) -> Known<'t>
         ensures { state result ≡ record {
-            program = record { mode = mode; text = text.now; bodies = []; layouts = []; globals = []; initial = []; functions = [] };
-            tags = [];
-            frame = no_frame;
+          program = record { mode = mode; text = text.now; bodies = []; layouts = []; globals = []; initial = []; functions = [] };
+          tags = [];
+          frame = no_frame;
         } }
     {
         Known {

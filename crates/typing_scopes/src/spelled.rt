@@ -22,8 +22,10 @@ fn with_stars(alloc: Global, stars: usize, t: TypePart) -> Result<TypePart, Type
     ensures { Gives (Ok (rules.with_stars stars t)) result }
 {
     let mut found = t;
-    for _ in 0..stars {
+    let mut left = stars;
+    while left > 0 {
         found = type_part(alloc, CType::Pointer(found.into_boxed()))?;
+        left -= 1;
     }
     Ok(found)
 }
@@ -52,6 +54,7 @@ impl<'t> Known<'t> {
         is_source(self.mode) && begins_reserved(name)
     }
 
+    #[tactic(auto, unfolding(typing_rules::specs::Checked::kept))]
     fn tagged(&self, alloc: Global, tag: &Leaf) -> Result<TypePart, TypeFault>
         ensures { Gives (struct_type (known self.now) tag.now) result }
     {
@@ -62,7 +65,7 @@ impl<'t> Known<'t> {
     }
 
     /// The type before the stars or the declarator (C11 6.7.2).
-    #[tactic(auto, unfolding(typing_rules::specs::Environment::specified))]
+    #[tactic(auto, unfolding(typing_rules::specs::Environment::specified, typing_rules::specs::Checked::kept))]
     pub fn specified(&self, alloc: Global, specifier: &Specifier) -> Result<TypePart, TypeFault>
         ensures { Gives (rules.specified (known self.now) specifier.now) result }
     {

@@ -82,7 +82,7 @@ impl<'t, T: HasName> Table<'t, T> {
 
     /// The items, in order.
     pub fn into_items(self) -> Items<T>
-        ensures { result ≡ self }
+        ensures { result ≡ self.entry }
     {
         let Table {
             names: _names,
