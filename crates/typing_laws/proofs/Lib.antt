@@ -1,0 +1,6 @@
+pub mod CheckedValues
+pub mod SmallTypes
+pub mod SmallRules
+pub mod SmallOperands
+pub mod LaterTypes
+pub mod SmallStructs
