@@ -1,7 +1,9 @@
 -- What holds of the value of one check after another.
-use Rattle.std.proofs.Common.{◌≡◌, Bool, true, false, List, [], ◌∷◌, Option, Some, None, Ok, Err, refl}
+use Rattle.std.proofs.Common.{◌≡◌, Bool, true, false, Option, Some, None, Ok, Err, refl, subst}
+use Rattle.std.specs.Prelude.{if◌then◌else◌, option_and_then, option_map}
+use Rattle.step_meaning.proofs.TypedMemory.{WhereSome}
 use Rattle.typing_rules.specs.declared.fault.TypeFault.{TypeFault}
-use Rattle.typing_rules.specs.Checked.{Checked, ◌>>=◌, kept, unless, none_of}
+use Rattle.typing_rules.specs.Checked.{Checked, ◌>>=◌, kept}
 use Rattle.typing_laws.specs.SmallTypes.{WhereOk}
 
 pub then_holds : {A B : Type 0} (P : A → Type 0) (Q : B → Type 0) (c : Checked A) (f : A → Checked B) → WhereOk P c → ((a : A) → P a → WhereOk Q (f a)) → WhereOk Q (c >>= f)
@@ -14,14 +16,7 @@ then_known Q (Ok a) f k = k a refl
 then_known Q (Err e) f k = tt
 
 pub where_ok : {A : Type 0} (P : A → Type 0) (c : Checked A) (a : A) → c ≡ Ok a → WhereOk P c → P a
-where_ok P (Ok b) a e h = rw (same e) at h
-  where
-    same : {A : Type 0} {a b : A} → Ok {E = TypeFault} b ≡ Ok a → b ≡ a
-    same e = cc
-where_ok P (Err x) a e h = absurd (no e)
-  where
-    no : {A : Type 0} {a : A} {x : TypeFault} → Err x ≡ Ok a → ⊥
-    no e = cc
+where_ok P c a e h = subst (WhereOk P) e h
 
 -- whatever holds of each value
 pub always : {A : Type 0} (P : A → Type 0) (c : Checked A) → ((a : A) → P a) → WhereOk P c
@@ -32,7 +27,30 @@ pub weaker : {A : Type 0} (P Q : A → Type 0) (c : Checked A) → ((a : A) → 
 weaker P Q (Ok a) k h = k a h
 weaker P Q (Err e) k h = tt
 
-pub kept_holds : {A : Type 0} (P : A → Type 0) (e : TypeFault) (o : Option A) → ((a : A) → o ≡ Some a → P a) → WhereOk P (kept e o)
+pub kept_holds : {A : Type 0} (P : A → Type 0) (e : TypeFault) (o : Option A) → WhereSome P o → WhereOk P (kept e o)
 unfolding kept
 kept_holds P e None h = tt
-kept_holds P e (Some a) h = h a refl
+kept_holds P e (Some a) h = h
+
+-- ---- choices
+
+pub if_holds : {A : Type 0} (P : A → Type 0) (b : Bool) (x y : A) → (b ≡ true → P x) → (b ≡ false → P y) → P (if b then x else y)
+if_holds P true x y h k = h refl
+if_holds P false x y h k = k refl
+
+-- ---- options
+
+pub some_then : {A B : Type 0} (P : A → Type 0) (Q : B → Type 0) (f : A → Option B) (o : Option A) → WhereSome P o → ((a : A) → P a → WhereSome Q (f a)) → WhereSome Q (option_and_then f o)
+some_then P Q f None h k = tt
+some_then P Q f (Some a) h k = k a h
+
+pub some_mapped : {A B : Type 0} (P : A → Type 0) (Q : B → Type 0) (f : A → B) (o : Option A) → WhereSome P o → ((a : A) → P a → Q (f a)) → WhereSome Q (option_map f o)
+some_mapped P Q f None h k = tt
+some_mapped P Q f (Some a) h k = k a h
+
+pub some_known : {A : Type 0} (P : A → Type 0) (o : Option A) → ((a : A) → o ≡ Some a → P a) → WhereSome P o
+some_known P None h = tt
+some_known P (Some a) h = h a refl
+
+pub where_some : {A : Type 0} (P : A → Type 0) (o : Option A) (a : A) → o ≡ Some a → WhereSome P o → P a
+where_some P o a e h = subst (WhereSome P) e h

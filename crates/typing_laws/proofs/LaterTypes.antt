@@ -1,14 +1,21 @@
 -- Types that are complete stay what they are when further structs are complete.
-use Rattle.std.proofs.Common.{◌≡◌, ℕ, ◌≤◌, ◌<◌, true, ◌&&◌, List, ◌++◌, length, refl, sym, ap, subst, arith}
+use Rattle.std.proofs.Common.{◌≡◌, ℕ, ◌≤◌, ◌<◌, true, List, ◌++◌, length, refl, sym, ap, subst, arith}
 use Rattle.std.specs.Prelude.{nat_le, nat_lt}
+use Rattle.std.proofs.lemmas.Bool.{ltb-true}
 use Rattle.step_meaning.specs.declared.value.CType.{CType, end_of-CType, more_of-CType}
 use Rattle.step_meaning.specs.declared.value.CType.TheVariants.{Void, Int, Pointer', Array', Struct}
 use Rattle.step_meaning.specs.declared.program.Layout.{Layout}
 use Rattle.step_meaning.specs.Types.{times, object_cells}
 use Rattle.step_meaning.specs.TypeRules.{most_cells}
 use Rattle.step_meaning.proofs.Ranges.{false_is_not_true, and_true, left_of_and, right_of_and}
-use Rattle.step_meaning.proofs.LaterLayouts.{same_cells, below, is_below}
+use Rattle.step_meaning.proofs.LaterLayouts.{same_cells}
 use Rattle.typing_rules.specs.Declarations.{is_complete, is_within_limit}
+
+below : (m n : ℕ) → nat_lt m n ≡ true → m < n
+below m n e = ltb-true m n e
+
+is_below : (m n : ℕ) → m < n → nat_lt m n ≡ true
+is_below m n l = grind arith
 
 pub still_complete : (c c' k k' : ℕ) (t : CType) → c ≤ c' → k ≤ k' → is_complete c k t ≡ true → is_complete c' k' t ≡ true
 unfolding is_complete

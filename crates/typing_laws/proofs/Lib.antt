@@ -4,3 +4,5 @@ pub mod SmallRules
 pub mod SmallOperands
 pub mod LaterTypes
 pub mod SmallStructs
+pub mod IntegerKinds
+pub mod TypedCores

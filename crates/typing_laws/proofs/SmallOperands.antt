@@ -1,6 +1,6 @@
 -- Each operand of an expression has a small type, where the names in view have small types and the structs are small.
-use Rattle.std.proofs.Common.{◌≡◌, ℕ, zero, suc, ◌<◌, ◌≤◌, ◌^◌, Bool, true, false, ◌&&◌, List, [], ◌∷◌, Option, Some, None, Ok, Err, refl, subst, arith}
-use Rattle.std.specs.Prelude.{if◌then◌else◌, codes}
+use Rattle.std.proofs.Common.{◌≡◌, ℕ, ◌<◌, ◌≤◌, ◌^◌, Bool, true, false, ◌&&◌, not, length, List, [], ◌∷◌, Option, Some, None, Ok, Err, refl, arith}
+use Rattle.std.specs.Prelude.{if◌then◌else◌, ◌==◌, codes}
 use Rattle.std.specs.List.{AllByRecursion}
 use Rattle.std.specs.Str.{bytes_eq}
 use Rattle.c_lexer.specs.declared.token.Place.{Place}
@@ -15,7 +15,7 @@ use Rattle.step_meaning.specs.declared.expr.Expr.{Expr}
 use Rattle.step_meaning.specs.declared.expr.Expr.TheVariants as e
 use Rattle.step_meaning.specs.declared.program.Layout.{Layout}
 use Rattle.step_meaning.specs.ExpressionTypes.{pointer_to}
-use Rattle.step_meaning.specs.TypeRules.{cells, most_cells, is_spelled}
+use Rattle.step_meaning.specs.TypeRules.{most_cells}
 use Rattle.step_meaning.proofs.Ranges.{left_of_and}
 use Rattle.step_meaning.proofs.TypedMemory.{WhereSome}
 use Rattle.typing_rules.specs.declared.operand.Entry.{Entry}
@@ -23,21 +23,21 @@ use Rattle.typing_rules.specs.declared.operand.Entry.TheVariants.{Variable, Func
 use Rattle.typing_rules.specs.declared.operand.Operand.{Operand}
 use Rattle.typing_rules.specs.declared.operand.Value.{Value}
 use Rattle.typing_rules.specs.declared.operand.Origin.TheVariants.{Allocation}
-use Rattle.typing_rules.specs.declared.fault.TypeFault.TheVariants.{Mismatch}
-use Rattle.typing_rules.specs.Checked.{Checked, ◌>>=◌}
-use Rattle.typing_rules.specs.Syntax.{Expression, Expressions, Name, Number, Character, Paren, Call, Index, Member, Arrow, Increment, Decrement, Prefix, Cast, SizeOf, SizeOfType, Binary, Choose, Assign}
-use Rattle.typing_rules.specs.Environment.{Environment, Scope, place_of, bytes_in, found_in, or_else, found, entry, spelled_type}
+use Rattle.typing_rules.specs.declared.fault.TypeFault.TheVariants.{Mismatch, ArgumentCount, NoBody, MainCalled}
+use Rattle.typing_rules.specs.Checked.{Checked, none_of}
+use Rattle.typing_rules.specs.Syntax.{Expression, Name, Number, Character, Paren, Call, Index, Member, Arrow, Increment, Decrement, Prefix, Cast, SizeOf, SizeOfType, Binary, Choose, Assign}
+use Rattle.typing_rules.specs.Environment.{Environment, Scope, place_of, bytes_in, found_in, or_else, found, entry, contains, spelled_type}
 use Rattle.typing_rules.specs.Judgements.{shape, is_pointer, is_null, operator_of, compound_of}
 use Rattle.typing_rules.specs.Declarations.{is_within_limit}
 use Rattle.typing_rules.specs.Operands.{made_from, zero_literal, value, condition}
 use Rattle.typing_rules.specs.Operators.{unit}
-use Rattle.typing_rules.specs.Subobjects.{Base, base_of}
+use Rattle.typing_rules.specs.Subobjects.{base_of}
 use Rattle.typing_rules.specs.Allocation.{Request, operand_type, allocated, is_allocated, freed}
-use Rattle.typing_rules.specs.Expressions.{literal, numbered, is_malloc_number, is_free_number, named, called, malloc_called, free_called, called_entry, prefixed, assigned_by, operand}
+use Rattle.typing_rules.specs.Expressions.{literal, numbered, is_library_number, is_malloc_number, is_free_number, named, called, malloc_called, free_called, called_entry, prefixed, assigned_by, operand}
 use Rattle.typing_objects.specs.Parts.{OffsetsFit}
-use Rattle.typing_laws.specs.SmallTypes.{WhereOk, IsSmallType, IsSmallOperand, IsSmallValue, IsSmallEntry, IsSmallScope, StructsAreSmall, IsSmall, OperandsAreSmall}
-use Rattle.typing_laws.proofs.CheckedValues.{then_holds, then_known, where_ok, always, kept_holds}
-use Rattle.typing_laws.proofs.SmallTypes.{small_spelled, small_cells, small_unit}
+use Rattle.typing_laws.specs.SmallTypes.{WhereOk, IsSmallType, IsSmallOperand, IsSmallValue, IsSmallEntry, IsSmallScope, IsSmall, OperandsAreSmall}
+use Rattle.typing_laws.proofs.CheckedValues.{then_holds, then_known, where_ok, kept_holds}
+use Rattle.typing_laws.proofs.SmallTypes.{small_spelled, small_unit}
 use Rattle.typing_laws.proofs.SmallRules.{value_small, combined_small, choice_small, cast_small, promoting_small, negation_small, address_small, dereferenced_small, assigned_small, compound_small, stepped_small, IsSmallBase, base_small, indexed_small, dot_small, arrow_small, offsets_fit}
 
 -- ---- names
@@ -46,9 +46,9 @@ one_of : {A : Type 0} (P : A → Type 0) (b : Bool) (a : A) (o : Option A) → P
 one_of P true a o h j = h
 one_of P false a o h j = j
 
-either : {P : Entry → Type 0} (o q : Option Entry) → WhereSome P o → WhereSome P q → WhereSome P (or_else o q)
-either None q h j = j
-either (Some x) q h j = h
+either : (P : Entry → Type 0) (o q : Option Entry) → WhereSome P o → WhereSome P q → WhereSome P (or_else o q)
+either P None q h j = j
+either P (Some x) q h j = h
 
 module _ (ls : List Layout) (name : List ℕ) where
   in_scope : (scope : Scope) → IsSmallScope ls scope → WhereSome (IsSmallEntry ls) (found_in scope name)
@@ -59,7 +59,7 @@ module _ (ls : List Layout) (name : List ℕ) where
   in_scopes : (scopes : List Scope) → AllByRecursion (IsSmallScope ls) scopes → WhereSome (IsSmallEntry ls) (found scopes name)
   unfolding found
   in_scopes [] h = tt
-  in_scopes (scope ∷ outer) h = either (found_in scope name) (found outer name) (in_scope scope h.0) (in_scopes outer h.1)
+  in_scopes (scope ∷ outer) h = either (IsSmallEntry ls) (found_in scope name) (found outer name) (in_scope scope h.0) (in_scopes outer h.1)
 
 -- ---- constants and calls
 
@@ -86,7 +86,7 @@ module _ (g : Environment) where
   Small a = IsSmallOperand g.layouts a
 
   entry_small : IsSmall g → (t : Leaf) → WhereOk (IsSmallEntry g.layouts) (entry g t)
-  entry_small s t = kept_holds (IsSmallEntry g.layouts) _ (found g.scopes (bytes_in g t)) (λ x e. subst (WhereSome (IsSmallEntry g.layouts)) e (in_scopes g.layouts (bytes_in g t) g.scopes s.names))
+  entry_small s t = kept_holds (IsSmallEntry g.layouts) _ (found g.scopes (bytes_in g t)) (in_scopes g.layouts (bytes_in g t) g.scopes s.names)
 
   named_small : (t : Leaf) (x : Entry) → IsSmallEntry g.layouts x → WhereOk Small (named g t x)
   named_small t (Variable v u) h = h
@@ -102,7 +102,11 @@ module _ (g : Environment) where
   allocated_small at q = allocated_if (is_allocated g q.ctype) at q refl
 
   called_small : (t : Leaf) (f : ℕ) (r : CType) (ts : List CType) (xs : List Expr) → IsSmallType g.layouts r → WhereOk Small (called g t f r ts xs)
-  called_small t f r ts xs h = then_known Small _ _ (λ u e. h)
+  called_small t f r ts xs h =
+      then_known Small
+      (none_of ((not (length xs == length ts), ArgumentCount (place_of t))
+      ∷ (not (is_library_number f) && not (contains g.bodies (bytes_in g t)), NoBody (place_of t))
+      ∷ (bytes_eq (bytes_in g t) (codes "main"), MainCalled (place_of t)) ∷ [])) _ (λ u e. h)
 
   malloc_small : (t : Leaf) (q : Option (Checked Request)) (v : Option (Checked Value)) (es : Checked (List Expr)) → WhereOk Small (malloc_called g t q v es)
   malloc_small t (Some q) v es = then_known Small q _ (λ r e. allocated_small (place_of t) r)

@@ -1,16 +1,19 @@
 -- What each rule makes of operands of small types has a small type.
-use Rattle.std.proofs.Common.{◌≡◌, ℕ, zero, suc, ◌<◌, ◌≤◌, ◌^◌, Bool, true, false, List, [], ◌∷◌, take, sum_by, Option, Some, None, Ok, Err, refl, sym, subst, arith}
-use Rattle.std.specs.Prelude.{slice_get, position, option_and_then, option_map, if◌then◌else◌}
+use Rattle.std.proofs.Common.{ℕ, ◌≤◌, Bool, true, false, List, take, sum_by, Ok, refl, arith}
+use Rattle.std.specs.Prelude.{pos, slice_get, position, if◌then◌else◌}
 use Rattle.std.specs.Str.{bytes_eq}
 use Rattle.std.proofs.lemmas.List.Sums.{sum_by-take-le}
 use Rattle.c_lexer.specs.declared.token.Place.{Place}
 use Rattle.step_meaning.specs.declared.value.IntKind.{IntKind}
+use Rattle.step_meaning.specs.declared.value.IntKind.TheVariants as kind
 use Rattle.step_meaning.specs.declared.value.CType.{CType, end_of-CType, more_of-CType}
 use Rattle.step_meaning.specs.declared.value.CType.TheVariants as type
 use Rattle.step_meaning.specs.declared.expr.IntOp.{IntOp}
 use Rattle.step_meaning.specs.declared.expr.Answer.{Answer}
+use Rattle.step_meaning.specs.declared.expr.Answer.TheVariants.{After}
 use Rattle.step_meaning.specs.declared.expr.Side.TheVariants.{PointerFirst, PointerLast, Minus}
 use Rattle.step_meaning.specs.declared.expr.Expr.{Expr}
+use Rattle.step_meaning.specs.declared.expr.Expr.TheVariants as ex
 use Rattle.step_meaning.specs.declared.expr.Place_.{Place_}
 use Rattle.step_meaning.specs.declared.program.Declared.{Declared}
 use Rattle.step_meaning.specs.declared.program.Layout.{Layout}
@@ -31,27 +34,27 @@ use Rattle.typing_rules.specs.declared.operand.Operand.{Operand}
 use Rattle.typing_rules.specs.declared.operand.Value.{Value}
 use Rattle.typing_rules.specs.declared.operand.What.{What}
 use Rattle.typing_rules.specs.declared.operand.What.TheVariants.{At, Made}
-use Rattle.typing_rules.specs.Checked.{Checked, ◌>>=◌}
-use Rattle.typing_rules.specs.Judgements.{shape, is_scalar_shape, is_integer_shape, is_pointer, is_null}
+use Rattle.typing_rules.specs.declared.fault.TypeFault.TheVariants.{Mismatch, Unknown}
+use Rattle.typing_rules.specs.Checked.{Checked, kept}
+use Rattle.typing_rules.specs.Judgements.{shape, is_scalar_shape, is_integer_shape, compound_operation}
 use Rattle.typing_rules.specs.Declarations.{is_within_limit}
-use Rattle.typing_rules.specs.Allocation.{operand_type, type_of_object}
-use Rattle.typing_rules.specs.Operands.{loaded, value_of, value}
+use Rattle.typing_rules.specs.Allocation.{type_of_object}
+use Rattle.typing_rules.specs.Operands.{int, plain_value, loaded, value_of, value, fitted}
 use Rattle.typing_rules.specs.Operators.{computed, combined, selected, choice_of, cast_by, cast, promoted_value, promoting, negation, address_at, address, pointee, dereferenced}
-use Rattle.typing_rules.specs.Assignments.{Target, target_of, target, assigned, updated, compound, stepped}
+use Rattle.typing_rules.specs.Assignments.{Target, target_of, type_of_what, target, assigned, updated, compound, stepped}
 use Rattle.typing_rules.specs.Subobjects.{Base, InArray, BehindPointer, before_index, base_of_what, base_of, behind, element_of, indexed, Member, member_at, member_among, member_of, of_struct, dot_of, dot, arrow_of, arrow}
 use Rattle.typing_objects.specs.Parts.{OffsetsFit}
 use Rattle.typing_laws.specs.SmallTypes.{WhereOk, IsSmallType, IsSmallOperand, IsSmallValue, StructsAreSmall, HasSmallMembers, member_cells}
-use Rattle.typing_laws.proofs.CheckedValues.{then_holds, then_known, kept_holds}
-use Rattle.typing_laws.proofs.SmallTypes.{small_void, small_int, small_cells}
+use Rattle.typing_laws.proofs.CheckedValues.{then_holds, then_known, kept_holds, if_holds, some_then, some_mapped, some_known, where_some}
 
--- ---- options
+abbrev IsSmallTarget : List Layout → Target → Type 0
+IsSmallTarget ls to = IsSmallType ls to.ctype
 
-and_then_some : {A B : Type 0} (P : A → Type 0) (Q : B → Type 0) (f : A → Option B) → ((a : A) → P a → WhereSome Q (f a)) → (o : Option A) → WhereSome P o → WhereSome Q (option_and_then f o)
-and_then_some P Q f k None h = tt
-and_then_some P Q f k (Some a) h = k a h
+abbrev IsSmallMember : List Layout → Member → Type 0
+IsSmallMember ls m = IsSmallType ls m.ctype
 
-some_holds : {A : Type 0} (P : A → Type 0) (o : Option A) (a : A) → o ≡ Some a → WhereSome P o → P a
-some_holds P o a e h = subst (WhereSome P) e h
+abbrev HasSmallOffset : Member → Type 0
+HasSmallOffset m = m.offset ≤ most_cells
 
 module _ (ls : List Layout) where
   -- ---- values
@@ -151,20 +154,16 @@ module _ (ls : List Layout) where
 
   -- ---- assignments
 
-  target_of_small : (w : What) → IsSmallType ls (type_of_object w) → WhereSome (λ to. IsSmallType ls to.ctype) (target_of w)
-  target_of_small (At p t) h = by (is_scalar_shape (shape t))
-    where
-      by : (b : Bool) → WhereSome (λ to. IsSmallType ls to.ctype) (if b then Some (record { place = p; ctype = t }) else None)
-      by true = h
-      by false = tt
+  target_of_small : (w : What) → IsSmallType ls (type_of_object w) → WhereSome (IsSmallTarget ls) (target_of w)
+  target_of_small (At p t) h = if_holds (WhereSome (IsSmallTarget ls)) (is_scalar_shape (shape t)) _ _ (λ e. h) (λ e. tt)
   target_of_small (Made o x t) h = tt
 
-  target_small : (at : Place) (a : Operand) → IsSmallOperand ls a → WhereOk (λ to. IsSmallType ls to.ctype) (target at a)
-  target_small at a h = kept_holds (λ to. IsSmallType ls to.ctype) _ (target_of a.what) (λ to e. some_holds (λ to. IsSmallType ls to.ctype) (target_of a.what) to e (target_of_small a.what h))
+  target_small : (at : Place) (a : Operand) → IsSmallOperand ls a → WhereOk (IsSmallTarget ls) (target at a)
+  target_small at a h = kept_holds (IsSmallTarget ls) _ (target_of a.what) (target_of_small a.what h)
 
   pub assigned_small : (at : Place) (a : Operand) (v : Value) → IsSmallOperand ls a → WhereOk (IsSmallOperand ls) (assigned at a v)
   unfolding assigned
-  assigned_small at a v h = then_holds (λ to. IsSmallType ls to.ctype) (IsSmallOperand ls) (target at a) _ (target_small at a h) (λ to k. then_known (IsSmallOperand ls) _ _ (λ x e. k))
+  assigned_small at a v h = then_holds (IsSmallTarget ls) (IsSmallOperand ls) (target at a) _ (target_small at a h) (λ to k. then_known (IsSmallOperand ls) (fitted at to.ctype v) _ (λ x e. k))
 
   updated_small : (first : Place) (how : CompoundOperation) (to : Target) (v : Value) (answer : Answer) → IsSmallType ls to.ctype → IsSmallOperand ls (updated ls first how to v answer)
   unfolding updated
@@ -174,11 +173,15 @@ module _ (ls : List Layout) where
 
   pub compound_small : (at : Place) (o : IntOp) (a : Operand) (v : Value) → IsSmallOperand ls a → WhereOk (IsSmallOperand ls) (compound ls at o a v)
   unfolding compound
-  compound_small at o a v h = then_known (IsSmallOperand ls) _ _ (λ how e. then_holds (λ to. IsSmallType ls to.ctype) (IsSmallOperand ls) (target at a) _ (target_small at a h) (λ to k. updated_small a.first how to v _ k))
+  compound_small at o a v h =
+      then_known (IsSmallOperand ls) (kept (Mismatch at) (compound_operation o (shape (type_of_what a.what)) (shape v.ctype))) _ (λ how e.
+      then_holds (IsSmallTarget ls) (IsSmallOperand ls) (target at a) _ (target_small at a h) (λ to k. updated_small a.first how to v After k))
 
   pub stepped_small : (at first : Place) (o : IntOp) (a : Operand) (answer : Answer) → IsSmallOperand ls a → WhereOk (IsSmallOperand ls) (stepped ls at first o a answer)
   unfolding stepped
-  stepped_small at first o a answer h = then_holds (λ to. IsSmallType ls to.ctype) (IsSmallOperand ls) (target at a) _ (target_small at a h) (λ to k. then_known (IsSmallOperand ls) _ _ (λ how e. updated_small first how to _ answer k))
+  stepped_small at first o a answer h =
+      then_holds (IsSmallTarget ls) (IsSmallOperand ls) (target at a) _ (target_small at a h) (λ to k.
+      then_known (IsSmallOperand ls) (kept (Mismatch at) (compound_operation o (shape to.ctype) (shape int))) _ (λ how e. updated_small first how to (plain_value first (ex.Literal kind.Int (pos 1)) int) answer k))
 
   -- ---- elements
 
@@ -215,26 +218,17 @@ module _ (ls : List Layout) where
 
   -- ---- members
 
-  member_at_small : (ds : List Declared) (i : ℕ) (o : Option Declared) → WhereSome (λ d. IsSmallType ls d.ctype) o
-      → WhereSome (λ m. IsSmallType ls m.ctype) (option_map (λ d. record { offset = sum_by (λ d. cells ls d.ctype) (take i ds); ctype = d.ctype }) o)
-  member_at_small ds i None h = tt
-  member_at_small ds i (Some d) h = h
+  pub member_among_small : (name : List ℕ) (l : Layout) → HasSmallMembers ls l → WhereSome (IsSmallMember ls) (member_among ls name l.members)
+  member_among_small name l h =
+      some_then (λ (i : ℕ). Unit {0}) (IsSmallMember ls) (member_at ls l.members) (position (λ d. bytes_eq name d.name) l.members) (some_known (λ (i : ℕ). Unit {0}) _ (λ i e. tt)) (λ i u.
+      some_mapped (λ (d : Declared). IsSmallType ls d.ctype) (IsSmallMember ls) _ (slice_get l.members i) (get_fits (λ d. IsSmallType ls d.ctype) l.members i h) (λ d k. k))
 
-  pub member_among_small : (name : List ℕ) (l : Layout) → HasSmallMembers ls l → WhereSome (λ m. IsSmallType ls m.ctype) (member_among ls name l.members)
-  member_among_small name l h = by (position (λ d. bytes_eq name d.name) l.members)
-    where
-      by : (o : Option ℕ) → WhereSome (λ m. IsSmallType ls m.ctype) (option_and_then (member_at ls l.members) o)
-      by None = tt
-      by (Some i) = member_at_small l.members i (slice_get l.members i) (get_fits (λ d. IsSmallType ls d.ctype) l.members i h)
-
-  member_of_small : StructsAreSmall ls → (n : ℕ) (name : List ℕ) → WhereSome (λ m. IsSmallType ls m.ctype) (member_of ls n name)
-  member_of_small s n name = and_then_some (HasSmallMembers ls) (λ m. IsSmallType ls m.ctype) _ (member_among_small name) (slice_get ls n) (get_fits (HasSmallMembers ls) ls n s.types)
+  member_of_small : StructsAreSmall ls → (n : ℕ) (name : List ℕ) → WhereSome (IsSmallMember ls) (member_of ls n name)
+  member_of_small s n name = some_then (HasSmallMembers ls) (IsSmallMember ls) _ (slice_get ls n) (get_fits (HasSmallMembers ls) ls n s.types) (member_among_small name)
 
   of_struct_small : StructsAreSmall ls → (at first at_name : Place) (name : List ℕ) (p : Place_) (t : CType) → WhereOk (IsSmallOperand ls) (of_struct ls at first at_name name p t)
   of_struct_small s at first at_name name p (type.Struct n) =
-      then_holds (λ m. IsSmallType ls m.ctype) (IsSmallOperand ls) _ _
-      (kept_holds (λ m. IsSmallType ls m.ctype) _ (member_of ls n name) (λ m e. some_holds (λ m. IsSmallType ls m.ctype) (member_of ls n name) m e (member_of_small s n name)))
-      (λ m k. k)
+      then_holds (IsSmallMember ls) (IsSmallOperand ls) (kept (Unknown at_name) (member_of ls n name)) _ (kept_holds (IsSmallMember ls) _ (member_of ls n name) (member_of_small s n name)) (λ m k. k)
   of_struct_small s at first at_name name p t = tt
 
   dot_of_small : StructsAreSmall ls → (at first at_name : Place) (name : List ℕ) (w : What) → WhereOk (IsSmallOperand ls) (dot_of ls at first at_name name w)
@@ -246,7 +240,7 @@ module _ (ls : List Layout) where
   dot_small s at at_name name a = dot_of_small s at a.first at_name name a.what
 
   arrow_of_small : StructsAreSmall ls → (at at_name : Place) (name : List ℕ) (v : Value) (t : CType) → WhereOk (IsSmallOperand ls) (arrow_of ls at at_name name v t)
-  arrow_of_small s at at_name name v (type.Pointer' b (more_of-CType t end_of-CType)) = of_struct_small s at v.first at_name name _ t
+  arrow_of_small s at at_name name v (type.Pointer' b (more_of-CType t end_of-CType)) = of_struct_small s at v.first at_name name (ex.Deref v.expr) t
   arrow_of_small s at at_name name v t = tt
 
   pub arrow_small : StructsAreSmall ls → (at at_name : Place) (name : List ℕ) (v : Value) → WhereOk (IsSmallOperand ls) (arrow ls at at_name name v)
@@ -255,20 +249,15 @@ module _ (ls : List Layout) where
 
   -- ---- offsets
 
-  offset_at : (ds : List Declared) (i : ℕ) (o : Option Declared) → sum_by (λ d. cells ls d.ctype) ds ≤ most_cells
-      → WhereSome (λ m. m.offset ≤ most_cells) (option_map (λ d. record { offset = sum_by (λ d. cells ls d.ctype) (take i ds); ctype = d.ctype }) o)
-  offset_at ds i None h = tt
-  offset_at ds i (Some d) h = let part : sum_by (λ d. cells ls d.ctype) (take i ds) ≤ sum_by (λ d. cells ls d.ctype) ds = sum_by-take-le (λ d. cells ls d.ctype) ds i in omega arith
+  offset_among : (name : List ℕ) (l : Layout) → member_cells ls l ≤ most_cells → WhereSome HasSmallOffset (member_among ls name l.members)
+  offset_among name l h =
+      some_then (λ (i : ℕ). Unit {0}) HasSmallOffset (member_at ls l.members) (position (λ d. bytes_eq name d.name) l.members) (some_known (λ (i : ℕ). Unit {0}) _ (λ i e. tt)) (λ i u.
+      some_mapped (λ (d : Declared). Unit {0}) HasSmallOffset _ (slice_get l.members i) (some_known (λ (d : Declared). Unit {0}) _ (λ d e. tt)) (λ d k.
+      let part : sum_by (λ d. cells ls d.ctype) (take i l.members) ≤ sum_by (λ d. cells ls d.ctype) l.members = sum_by-take-le (λ d. cells ls d.ctype) l.members i in
+      omega arith))
 
-  offset_among : (name : List ℕ) (l : Layout) → member_cells ls l ≤ most_cells → WhereSome (λ m. m.offset ≤ most_cells) (member_among ls name l.members)
-  offset_among name l h = by (position (λ d. bytes_eq name d.name) l.members)
-    where
-      by : (o : Option ℕ) → WhereSome (λ m. m.offset ≤ most_cells) (option_and_then (member_at ls l.members) o)
-      by None = tt
-      by (Some i) = offset_at l.members i (slice_get l.members i) h
-
-  offset_of : StructsAreSmall ls → (n : ℕ) (name : List ℕ) → WhereSome (λ m. m.offset ≤ most_cells) (member_of ls n name)
-  offset_of s n name = and_then_some (λ l. member_cells ls l ≤ most_cells) (λ m. m.offset ≤ most_cells) _ (offset_among name) (slice_get ls n) (get_fits (λ l. member_cells ls l ≤ most_cells) ls n s.members)
+  offset_of : StructsAreSmall ls → (n : ℕ) (name : List ℕ) → WhereSome HasSmallOffset (member_of ls n name)
+  offset_of s n name = some_then (λ l. member_cells ls l ≤ most_cells) HasSmallOffset _ (slice_get ls n) (get_fits (λ l. member_cells ls l ≤ most_cells) ls n s.members) (offset_among name)
 
   pub offsets_fit : StructsAreSmall ls → OffsetsFit ls
-  offsets_fit s n name m e = let small : m.offset ≤ most_cells = some_holds (λ m. m.offset ≤ most_cells) (member_of ls n name) m e (offset_of s n name) in omega arith
+  offsets_fit s n name m e = let small : m.offset ≤ most_cells = where_some HasSmallOffset (member_of ls n name) m e (offset_of s n name) in omega arith

@@ -1,14 +1,14 @@
 -- Structs that are declared within the limit are small.
-use Rattle.std.proofs.Common.{◌≡◌, ℕ, suc, ◌+◌, ◌≤◌, ◌<◌, true, ◌&&◌, List, [], ◌∷◌, ◌++◌, length, flat_map, sum_by, Option, Some, None, refl, sym, ap, subst, ◌∙◌, arith, append_assoc, length-append}
-use Rattle.std.specs.Prelude.{nat_le, slice_get}
+use Rattle.std.proofs.Common.{◌≡◌, ℕ, suc, ◌≤◌, true, List, [], ◌∷◌, ◌++◌, length, flat_map, sum_by, Option, Some, None, refl, sym, ap, subst, arith, append_assoc}
+use Rattle.std.specs.Prelude.{slice_get}
 use Rattle.std.specs.List.{list_all, AllByRecursion}
 use Rattle.std.proofs.lemmas.Bool.{leb-true}
 use Rattle.std.proofs.lemmas.List.Concat.{length-flat_map}
+use Rattle.std.proofs.lemmas.List.Sums.{sum_by-cons}
 use Rattle.step_meaning.specs.declared.value.CType.{CType}
-use Rattle.step_meaning.specs.declared.value.CType.TheVariants as type
 use Rattle.step_meaning.specs.declared.program.Declared.{Declared}
 use Rattle.step_meaning.specs.declared.program.Layout.{Layout}
-use Rattle.step_meaning.specs.Types.{cell_types, struct_cells, object_cells, or_empty}
+use Rattle.step_meaning.specs.Types.{cell_types, struct_cells, or_empty}
 use Rattle.step_meaning.specs.TypeRules.{cells, most_cells}
 use Rattle.step_meaning.proofs.Ranges.{left_of_and, right_of_and}
 use Rattle.step_meaning.proofs.TypedMemory.{WhereSome, get_fits}
@@ -48,7 +48,7 @@ members_later before more known [] e = refl
 members_later before more known (d ∷ ds) e =
     let first : cells (before ++ more) d.ctype ≡ cells before d.ctype = ap length (complete_cells before more known d.ctype (left_of_and _ _ (left_of_and _ _ e))) in
     let rest : sum_by (λ d. cells (before ++ more) d.ctype) ds ≡ sum_by (λ d. cells before d.ctype) ds = members_later before more known ds (right_of_and _ _ e) in
-    omega arith
+    rw (sum_by-cons (λ d. cells (before ++ more) d.ctype) d ds, sum_by-cons (λ d. cells before d.ctype) d ds, first, rest) refl
 
 types_later : (before more : List Layout) (known : ℕ) (ds : List Declared) → list_all (λ d. is_small_object before known d.ctype) ds ≡ true → AllByRecursion (λ d. IsSmallType (before ++ more) d.ctype) ds
 types_later before more known [] e = tt
@@ -57,15 +57,17 @@ types_later before more known (d ∷ ds) e =
 
 each_members : (before ls : List Layout) → are_small_structs before ls ≡ true → AllByRecursion (λ l. member_cells (before ++ ls) l ≤ most_cells) ls
 each_members before [] e = tt
-each_members before (l ∷ ls) e =
-    (rw (members_later before (l ∷ ls) (suc (length before)) l.members (left_of_and _ _ (left_of_and _ _ e))) (leb-true (sum_by (λ d. cells before d.ctype) l.members) most_cells (right_of_and _ _ (left_of_and _ _ e))),
-    subst (λ all. AllByRecursion (λ l. member_cells all l ≤ most_cells) ls) (append_assoc before (l ∷ []) ls) (each_members (before ++ (l ∷ [])) ls (right_of_and _ _ e)))
+each_members before (l ∷ ls) e = (
+  rw (members_later before (l ∷ ls) (suc (length before)) l.members (left_of_and _ _ (left_of_and _ _ e))) (leb-true (sum_by (λ d. cells before d.ctype) l.members) most_cells (right_of_and _ _ (left_of_and _ _ e))),
+  subst (λ all. AllByRecursion (λ l. member_cells all l ≤ most_cells) ls) (append_assoc before (l ∷ []) ls) (each_members (before ++ (l ∷ [])) ls (right_of_and _ _ e)),
+)
 
 each_types : (before ls : List Layout) → are_small_structs before ls ≡ true → AllByRecursion (HasSmallMembers (before ++ ls)) ls
 each_types before [] e = tt
-each_types before (l ∷ ls) e =
-    (types_later before (l ∷ ls) (suc (length before)) l.members (left_of_and _ _ (left_of_and _ _ e)),
-    subst (λ all. AllByRecursion (HasSmallMembers all) ls) (append_assoc before (l ∷ []) ls) (each_types (before ++ (l ∷ [])) ls (right_of_and _ _ e)))
+each_types before (l ∷ ls) e = (
+  types_later before (l ∷ ls) (suc (length before)) l.members (left_of_and _ _ (left_of_and _ _ e)),
+  subst (λ all. AllByRecursion (HasSmallMembers all) ls) (append_assoc before (l ∷ []) ls) (each_types (before ++ (l ∷ [])) ls (right_of_and _ _ e)),
+)
 
 -- ---- all structs
 
