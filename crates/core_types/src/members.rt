@@ -7,11 +7,11 @@ use crate::sizes::{cells, members_size, plus};
 use step_meaning::{CType, Declared, Layout};
 
 /// The number of the first member with this name, and none where no member has it (C11 6.5.2.3, 1).
-pub fn member_named(members: &[Declared], name: &str) -> Option<usize>
+pub fn member_named(members: &[Declared], name: &[u8]) -> Option<usize>
     ensures { result ≡ position (λ d. bytes_eq name.now d.name) members.now }
 {
     for index in 0..members.len() {
-        if name == members[index].name.as_str() {
+        if name == members[index].name.as_str().as_bytes() {
             return Some(index);
         }
     }

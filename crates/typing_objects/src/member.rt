@@ -33,7 +33,7 @@ fn member_among(
     layouts: &[Layout],
     first: Place,
     at_name: Place,
-    name: &str,
+    name: &[u8],
     place: PlacePart,
     members: &[Declared],
 ) -> Result<Operand, TypeFault>
@@ -62,7 +62,7 @@ fn struct_member(
     layouts: &[Layout],
     first: Place,
     at_name: Place,
-    name: &str,
+    name: &[u8],
     place: PlacePart,
     number: u32,
 ) -> Result<Operand, TypeFault>
@@ -93,7 +93,7 @@ fn of_struct(
     at: Place,
     first: Place,
     at_name: Place,
-    name: &str,
+    name: &[u8],
     place: PlacePart,
     t: &CType,
 ) -> Result<Operand, TypeFault>
@@ -117,7 +117,7 @@ pub fn dot(
     layouts: &[Layout],
     at: Place,
     at_name: Place,
-    name: &str,
+    name: &[u8],
     a: Operand,
 ) -> Result<Operand, TypeFault>
     requires { OffsetsFit layouts.now }
@@ -146,7 +146,7 @@ pub fn arrow(
     layouts: &[Layout],
     at: Place,
     at_name: Place,
-    name: &str,
+    name: &[u8],
     v: Value,
 ) -> Result<Operand, TypeFault>
     requires { OffsetsFit layouts.now }

@@ -21,7 +21,7 @@ use Rattle.typing_rules.specs.Syntax.{Spelled, Parameter, Statements}
 use Rattle.typing_rules.specs.Environment.{Environment, Scope, place_of, contains, is_reserved, specified, spelled_type}
 use Rattle.typing_rules.specs.Declarations.{layers, layered, is_complete_in, is_struct, declarable}
 use Rattle.typing_rules.specs.Statements.{Frame, statements}
-use Rattle.typing_rules.specs.FileScope.{Program, numbered, seen_now, bytes}
+use Rattle.typing_rules.specs.FileScope.{Program, seen_now, bytes}
 
 -- ---- the functions of the library (C11 7.21.7.6, 7.21.7.8, 7.22.3.4, 7.22.3.3)
 
@@ -61,12 +61,18 @@ abbrev pub is_repeated : List Named → List ℕ → Bool
 is_repeated ps [] = false
 is_repeated ps (c ∷ cs) = list_any (λ d. bytes_eq d.name (c ∷ cs)) ps
 
-abbrev pub parameter_entry : ℕ → Named → List ℕ × Entry
-parameter_entry n d = (d.name, entry.Variable (record { kind = names.Local; index = n }) d.ctype)
+-- what a parameter declares: nothing where it has no name
+abbrev pub declared_name : List ℕ → Entry → Scope
+declared_name [] x = []
+declared_name (c ∷ cs) x = (c ∷ cs, x) ∷ []
+
+abbrev pub parameter_entries : ℕ → List Named → Scope
+parameter_entries n [] = []
+parameter_entries n (d ∷ ds) = declared_name d.name (entry.Variable (record { kind = names.Local; index = n }) d.ctype) ++ parameter_entries (suc n) ds
 
 -- the scope of a function: its parameters and its outermost block (C11 6.2.1, 4)
 abbrev pub parameter_scope : List Named → Scope
-parameter_scope ps = numbered parameter_entry 0 ps
+parameter_scope ps = parameter_entries 0 ps
 
 -- a size may name an earlier parameter, and is no constant then
 abbrev pub with_parameters : Environment → List Named → Environment

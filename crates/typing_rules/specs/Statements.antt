@@ -57,9 +57,10 @@ abbrev pub innermost : List Scope → Scope
 innermost [] = []
 innermost (s ∷ ss) = s
 
+-- the innermost scope with one more name; a scope has its names in the order of their declarations
 abbrev pub with_name : List ℕ → Variable → CType → List Scope → List Scope
 with_name name v t [] = ((name, entry.Variable v t) ∷ []) ∷ []
-with_name name v t (s ∷ ss) = ((name, entry.Variable v t) ∷ s) ∷ ss
+with_name name v t (s ∷ ss) = (s ++ ((name, entry.Variable v t) ∷ [])) ∷ ss
 
 -- in a program at this point, and a function with this result
 module _ (program : Environment) (result : CType) where
