@@ -190,18 +190,3 @@ module _ (g : Environment) where
 
 pub operands_small : OperandsAreSmall
 operands_small g s x a e = where_ok (IsSmallOperand g.layouts) (operand g x) a e (operand_small g s x)
-
-module _ (g : Environment) (s : IsSmall g) where
-  -- of a value: how far it moves as a pointer
-  pub value_moves : (x : Expression) (a : Operand) (v : Value) → operand g x ≡ Ok a → value a ≡ Ok v → unit g.layouts v.ctype < 2 ^ 32
-  value_moves x a v e i =
-      let small : unit g.layouts v.ctype ≤ most_cells = small_unit g.layouts s.structs v.ctype (where_ok (IsSmallValue g.layouts) (value a) v i (value_small g.layouts a (operands_small g s x a e))) in
-      omega arith
-
-  -- of an operand: how far its object moves as a pointer
-  pub operand_moves : (x : Expression) (a : Operand) → operand g x ≡ Ok a → unit g.layouts (operand_type a) < 2 ^ 32
-  operand_moves x a e = let small : unit g.layouts (operand_type a) ≤ most_cells = small_unit g.layouts s.structs (operand_type a) (operands_small g s x a e) in omega arith
-
-  -- the offsets of members
-  pub offsets_of : OffsetsFit g.layouts
-  offsets_of = offsets_fit g.layouts s.structs

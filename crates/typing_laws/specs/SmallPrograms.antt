@@ -1,13 +1,16 @@
 -- Programs up to some item whose types are small: what each declaration adds keeps this, so that each environment of the text is small.
 use Rattle.std.specs.Prelude.{ℕ, suc, Bool, true, ◌&&◌, nat_le, List, [], ◌∷◌, ◌++◌, length, sum_by, IsTrue}
 use Rattle.std.specs.List.{list_all, AllByRecursion}
+use Rattle.c_words.specs.declared.word.Mode.{Mode}
 use Rattle.step_meaning.specs.declared.value.CType.{CType}
 use Rattle.step_meaning.specs.declared.program.Layout.{Layout}
 use Rattle.step_meaning.specs.TypeRules.{cells, most_cells}
 use Rattle.typing_rules.specs.Declarations.{is_complete, is_within_limit}
 use Rattle.typing_rules.specs.Statements.{Frame}
-use Rattle.typing_rules.specs.FileScope.{Program}
-use Rattle.typing_laws.specs.SmallTypes.{IsSmallType, IsSmallScope}
+use Rattle.typing_rules.specs.FileScope.{Program, seen_now}
+use Rattle.typing_rules.specs.Syntax.{Item}
+use Rattle.typing_rules.specs.Programs.{items, start}
+use Rattle.typing_laws.specs.SmallTypes.{IsSmallType, IsSmallScope, IsSmall}
 
 -- the type of an object: complete after these structs, where so many are known, and small
 abbrev pub is_small_object : List Layout → ℕ → CType → Bool
@@ -34,3 +37,9 @@ pub record IsSmallProgram (p : Program) : Type 0 where
 -- what is known within a body
 abbrev pub IsSmallFrame : List Layout → Frame → Type 0
 IsSmallFrame layouts f = AllByRecursion (IsSmallScope layouts) f.scopes
+
+-- ---- the law
+
+-- what the next item of a text sees is small
+abbrev pub ProgramsAreSmall : Type 0
+ProgramsAreSmall = (m : Mode) (text : List ℕ) (all xs : List Item) (p : Program) → items xs (start m text all) ≡ Ok p → IsSmall (seen_now p)
