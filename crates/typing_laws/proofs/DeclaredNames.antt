@@ -1,9 +1,7 @@
 -- What a declared name keeps, where no rule on it is broken.
-use Rattle.std.proofs.Common.{◌≡◌, Bool, true, false, ◌&&◌, not, List, [], ◌∷◌, Ok, Err, refl}
-use Rattle.std.specs.Prelude.{if◌then◌else◌}
+use Rattle.std.proofs.Common.{◌≡◌, Bool, true, false, ◌&&◌, not, List, [], ◌∷◌, refl}
 use Rattle.c_lexer.specs.declared.token.Place.{Place}
 use Rattle.step_meaning.specs.declared.value.CType.{CType}
-use Rattle.step_meaning.proofs.Ranges.{false_is_not_true}
 use Rattle.typing_rules.specs.declared.fault.TypeFault.{TypeFault}
 use Rattle.typing_rules.specs.Checked.{Checked, ◌>>=◌, unless, none_of}
 use Rattle.typing_rules.specs.Environment.{Environment}

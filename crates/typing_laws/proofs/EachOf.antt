@@ -1,5 +1,5 @@
 -- What holds of each element of a list that is made of others.
-use Rattle.std.proofs.Common.{◌≡◌, ℕ, zero, suc, ◌<◌, ◌≤◌, Bool, true, ◌&&◌, List, [], ◌∷◌, ◌++◌, map, take, drop, length, refl, arith}
+use Rattle.std.proofs.Common.{◌≡◌, ℕ, zero, suc, Bool, true, List, [], ◌∷◌, ◌++◌, take, drop, refl}
 use Rattle.std.specs.List.{list_all, AllByRecursion}
 use Rattle.step_meaning.proofs.Ranges.{and_true, left_of_and, right_of_and}
 use Rattle.typing_rules.specs.FileScope.{numbered}

@@ -1,5 +1,5 @@
 -- Each operand of an expression has a small type, where the names in view have small types and the structs are small.
-use Rattle.std.proofs.Common.{◌≡◌, ℕ, ◌<◌, ◌≤◌, ◌^◌, Bool, true, false, ◌&&◌, not, length, List, [], ◌∷◌, Option, Some, None, Ok, Err, refl, arith}
+use Rattle.std.proofs.Common.{◌≡◌, ℕ, Bool, true, false, ◌&&◌, not, length, List, [], ◌∷◌, Option, Some, None, Ok, Err, refl}
 use Rattle.std.specs.Prelude.{if◌then◌else◌, ◌==◌, codes}
 use Rattle.std.specs.List.{AllByRecursion}
 use Rattle.std.specs.Str.{bytes_eq}
@@ -15,7 +15,6 @@ use Rattle.step_meaning.specs.declared.expr.Expr.{Expr}
 use Rattle.step_meaning.specs.declared.expr.Expr.TheVariants as e
 use Rattle.step_meaning.specs.declared.program.Layout.{Layout}
 use Rattle.step_meaning.specs.ExpressionTypes.{pointer_to}
-use Rattle.step_meaning.specs.TypeRules.{most_cells}
 use Rattle.step_meaning.proofs.Ranges.{left_of_and}
 use Rattle.step_meaning.proofs.TypedMemory.{WhereSome}
 use Rattle.typing_rules.specs.declared.operand.Entry.{Entry}
@@ -30,15 +29,13 @@ use Rattle.typing_rules.specs.Environment.{Environment, Scope, place_of, bytes_i
 use Rattle.typing_rules.specs.Judgements.{shape, is_pointer, is_null, operator_of, compound_of}
 use Rattle.typing_rules.specs.Declarations.{is_within_limit}
 use Rattle.typing_rules.specs.Operands.{made_from, zero_literal, value, condition}
-use Rattle.typing_rules.specs.Operators.{unit}
 use Rattle.typing_rules.specs.Subobjects.{base_of}
-use Rattle.typing_rules.specs.Allocation.{Request, operand_type, allocated, is_allocated, freed}
+use Rattle.typing_rules.specs.Allocation.{Request, allocated, is_allocated, freed}
 use Rattle.typing_rules.specs.Expressions.{literal, numbered, is_library_number, is_malloc_number, is_free_number, named, called, malloc_called, free_called, called_entry, prefixed, assigned_by, operand}
-use Rattle.typing_objects.specs.Parts.{OffsetsFit}
 use Rattle.typing_laws.specs.SmallTypes.{WhereOk, IsSmallType, IsSmallOperand, IsSmallValue, IsSmallEntry, IsSmallScope, IsSmall, OperandsAreSmall}
 use Rattle.typing_laws.proofs.CheckedValues.{then_holds, then_known, where_ok, kept_holds}
-use Rattle.typing_laws.proofs.SmallTypes.{small_spelled, small_unit}
-use Rattle.typing_laws.proofs.SmallRules.{value_small, combined_small, choice_small, cast_small, promoting_small, negation_small, address_small, dereferenced_small, assigned_small, compound_small, stepped_small, IsSmallBase, base_small, indexed_small, dot_small, arrow_small, offsets_fit}
+use Rattle.typing_laws.proofs.SmallTypes.{small_spelled}
+use Rattle.typing_laws.proofs.SmallRules.{value_small, combined_small, choice_small, cast_small, promoting_small, negation_small, address_small, dereferenced_small, assigned_small, compound_small, stepped_small, IsSmallBase, base_small, indexed_small, dot_small, arrow_small}
 
 -- ---- names
 

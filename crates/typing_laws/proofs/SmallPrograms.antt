@@ -1,43 +1,41 @@
 -- Each declaration keeps the types of a program small, so that each environment of its text is small.
-use Rattle.std.proofs.Common.{◌≡◌, ℕ, zero, suc, ◌+◌, ◌≤◌, Bool, true, false, ◌&&◌, ◌||◌, not, List, [], ◌∷◌, ◌++◌, map, take, drop, length, sum_by, Option, Some, None, Ok, Err, refl, sym, ap, subst, ◌∙◌, arith, append_assoc, append-nil, length-append}
-use Rattle.std.specs.Prelude.{nat_le, is_some, position}
+use Rattle.std.proofs.Common.{◌≡◌, ℕ, zero, suc, ◌+◌, ◌≤◌, Bool, true, false, ◌||◌, not, List, [], ◌∷◌, ◌++◌, take, length, sum_by, Option, Some, None, refl, sym, ap, subst, ◌∙◌, arith, append_assoc, append-nil, length-append}
+use Rattle.std.specs.Prelude.{nat_le, is_some}
 use Rattle.std.specs.List.{list_all, AllByRecursion}
 use Rattle.std.proofs.lemmas.List.{length-map}
 use Rattle.c_words.specs.declared.word.Leaf.{Leaf}
 use Rattle.c_words.specs.declared.word.Mode.{Mode}
 use Rattle.c_grammar.specs.declared.types.Specifier.{Specifier}
 use Rattle.c_grammar.specs.declared.types.Specifier.TheVariants as sp
-use Rattle.step_meaning.specs.declared.value.CType.{CType, end_of-CType, more_of-CType}
+use Rattle.step_meaning.specs.declared.value.CType.{CType}
 use Rattle.step_meaning.specs.declared.value.CType.TheVariants as type
 use Rattle.step_meaning.specs.declared.value.Value.{Value}
 use Rattle.step_meaning.specs.declared.expr.Variable.{Variable}
-use Rattle.step_meaning.specs.declared.stmt.Stmt.{Stmt}
 use Rattle.step_meaning.specs.declared.program.Declared.{Declared as Named}
 use Rattle.step_meaning.specs.declared.program.Layout.{Layout}
 use Rattle.step_meaning.specs.declared.program.Function.{Function as CoreFunction}
 use Rattle.step_meaning.specs.TypeRules.{cells, most_cells}
 use Rattle.step_meaning.specs.ExpressionTypes.{pointer_to}
-use Rattle.step_meaning.specs.Library.{int, void_pointer}
+use Rattle.step_meaning.specs.Library.{int}
 use Rattle.step_meaning.proofs.Ranges.{and_true, left_of_and, right_of_and}
 use Rattle.typing_rules.specs.declared.operand.Entry.{Entry}
-use Rattle.typing_rules.specs.declared.operand.Entry.TheVariants as entry
 use Rattle.typing_rules.specs.declared.fault.TypeFault.TheVariants.{TooLarge}
-use Rattle.typing_rules.specs.Checked.{Checked, ◌>>=◌, kept, unless}
+use Rattle.typing_rules.specs.Checked.{kept, unless}
 use Rattle.typing_rules.specs.Syntax.{Spelled, Declarator, Members, Declared, Parameter, Statements, Item, Struct, Variables, Function, Meta, GhostVariable}
 use Rattle.typing_rules.specs.Environment.{Environment, Scope, place_of, bytes_in, is_reserved, specified, with_stars, spelled_type}
-use Rattle.typing_rules.specs.Declarations.{layers, layered, count_of, is_complete, is_within_limit, is_complete_in, declarable}
+use Rattle.typing_rules.specs.Declarations.{layers, layered, count_of, is_complete, is_within_limit, is_complete_in}
 use Rattle.typing_rules.specs.Statements.{Frame, seen as seen_in_body, with_name, tail, statements}
 use Rattle.typing_rules.specs.FileScope.{Program, variable_entry, function_entry, file_scope, tags, seen, seen_now, bytes, is_known, is_main_name, first_values, with_variable, with_values, variable, variables}
 use Rattle.typing_rules.specs.Structs.{has_member, member, member_list, all_members, tag_declarable, with_layout, structure}
-use Rattle.typing_rules.specs.Functions.{adjusted, name_of, is_repeated, place_of_parameter, is_wrong_parameter, declared_name, parameter_entries, parameter_scope, with_parameters, parameter, parameters, declares_allocation, declarable_function, prototype, defined_function, function_number, with_function, number_or, replaced, defined_as, function}
-use Rattle.typing_rules.specs.Programs.{item, items, library, start, body_names}
-use Rattle.typing_laws.specs.SmallTypes.{WhereOk, IsSmallType, IsSmallEntry, IsSmallScope, StructsAreSmall, IsSmall}
+use Rattle.typing_rules.specs.Functions.{adjusted, name_of, is_repeated, place_of_parameter, is_wrong_parameter, declared_name, parameter_entries, parameter_scope, with_parameters, parameter, parameters, declares_allocation, declarable_function, defined_function, function_number, with_function, replaced, defined_as, function}
+use Rattle.typing_rules.specs.Programs.{item, items, start}
+use Rattle.typing_laws.specs.SmallTypes.{WhereOk, IsSmallType, IsSmallEntry, IsSmallScope, IsSmall}
 use Rattle.typing_laws.specs.SmallPrograms.{is_small_object, is_small_struct, are_small_structs, HasNoArray, IsSmallProgram, IsSmallFrame, ProgramsAreSmall}
 use Rattle.typing_laws.proofs.CheckedValues.{then_holds, then_known, where_ok}
 use Rattle.typing_laws.proofs.LaterTypes.{still_complete, still_within}
 use Rattle.typing_laws.proofs.SmallStructs.{structs_are_small}
 use Rattle.typing_laws.proofs.DeclaredNames.{not_false, declared_then, unless_holds}
-use Rattle.typing_laws.proofs.EachOf.{each_append, each_first, each_last, each_take, each_drop, each_weaker, each_numbered, all_append}
+use Rattle.typing_laws.proofs.EachOf.{each_append, each_take, each_drop, each_weaker, each_numbered, all_append}
 
 -- ---- types that are spelled
 

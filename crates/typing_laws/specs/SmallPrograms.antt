@@ -1,5 +1,5 @@
 -- Programs up to some item whose types are small: what each declaration adds keeps this, so that each environment of the text is small.
-use Rattle.std.specs.Prelude.{ℕ, suc, Bool, true, ◌&&◌, nat_le, List, [], ◌∷◌, ◌++◌, length, sum_by, IsTrue}
+use Rattle.std.specs.Prelude.{◌≡◌, Ok, ℕ, suc, Bool, true, ◌&&◌, nat_le, List, [], ◌∷◌, ◌++◌, length, sum_by, IsTrue}
 use Rattle.std.specs.List.{list_all, AllByRecursion}
 use Rattle.c_words.specs.declared.word.Mode.{Mode}
 use Rattle.step_meaning.specs.declared.value.CType.{CType}
