@@ -10,3 +10,5 @@ pub mod DeclaredNames
 pub mod SmallPrograms
 pub mod IntegerKinds
 pub mod TypedCores
+pub mod TypedValues
+pub mod TypedOperators
