@@ -1,0 +1,14 @@
+pub mod CheckedValues
+pub mod EachOf
+pub mod SmallTypes
+pub mod SmallRules
+pub mod SmallOperands
+pub mod SmallSizes
+pub mod LaterTypes
+pub mod SmallStructs
+pub mod DeclaredNames
+pub mod SmallPrograms
+pub mod IntegerKinds
+pub mod TypedCores
+pub mod TypedValues
+pub mod TypedOperators

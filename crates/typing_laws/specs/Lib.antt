@@ -1,0 +1,2 @@
+pub mod SmallTypes
+pub mod SmallPrograms

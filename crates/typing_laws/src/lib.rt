@@ -1,0 +1,15 @@
+//! Laws on the typing rules: what elaboration gives is small enough to be counted in 32 bits.
+#![tactic(auto)]
+
+ghost use Rattle.typing_laws.specs.SmallPrograms.{ProgramsAreSmall};
+ghost use Rattle.typing_laws.specs.SmallTypes.{OperandsAreSmall};
+
+/// Where the names in view have small types and the structs are small, so has each operand of an expression.
+pub fn operands_are_small()
+    ensures { OperandsAreSmall }
+{}
+
+/// What the next item of a text sees is small, wherever no rule was broken before it.
+pub fn programs_are_small()
+    ensures { ProgramsAreSmall }
+{}
