@@ -19,7 +19,7 @@ pub use laws::{
     faults_halt, fits_bounded, flows_agree, folds_prefixes, outcome_is_computed, runs_are_traced,
     same_first_steps, strict_runs_agree, traced_prefixes, traced_sights_typed,
 };
-pub use parts::{ExprPart, PlacePart, PredicatePart, StmtPart, StmtsPart, TermPart};
+pub use parts::{ExprPart, ExprsPart, PlacePart, PredicatePart, StmtPart, StmtsPart, TermPart};
 pub use pointers::{pointer_add, pointer_diff};
 pub use predicate::{Event, EventKind, Location, Predicate, Term, TermPlace};
 pub use program::{Core, Declared, Function, HookPlace, HookPoint, Hooks, Layout};

@@ -1,7 +1,7 @@
 //! Parts of trees that other crates hold while they make others. A tree that is let go is proved to be let go in the crate
 //! that does so, node by node; a part is let go here, once.
 
-ghost use Rattle.std.specs.Prelude.{◌≡◌, IfOk};
+ghost use Rattle.std.specs.Prelude.{◌≡◌, [], ◌∷◌, ◌++◌, IfOk, OnOk};
 
 use crate::expr::{Expr, Place_};
 use crate::predicate::{Predicate, Term};
@@ -54,6 +54,56 @@ impl ExprPart {
         ensures { result ≡ self }
     {
         let ExprPart { inner } = self;
+        inner
+    }
+}
+
+/// Expressions that another crate holds while it makes others. Contracts see them as their list; this crate alone lets them go.
+pub struct ExprsPart {
+    inner: Items<Expr>,
+}
+
+impl Model for ExprsPart {
+    ghost use Rattle.std.specs.Prelude.{List};
+    ghost use Rattle.step_meaning.specs.declared.expr.Expr.{Expr};
+    ghost use Rattle.step_meaning.specs.contracts.expr.Expr as tree;
+    ghost use Rattle.std.specs.Coded.{codes};
+
+    ghost Value = { List Expr };
+
+    ghost coded = { Prim.hlevel (codes, tree.the_row.coded) };
+
+    ghost view = { λ part. part.inner };
+}
+
+impl Drop for ExprsPart {
+    fn drop(self) {
+        let ExprsPart { inner: _inner } = self;
+    }
+}
+
+impl ExprsPart {
+    /// No expressions yet.
+    pub fn new(alloc: Global) -> ExprsPart
+        ensures { result ≡ [] }
+    {
+        ExprsPart {
+            inner: Items::new(alloc),
+        }
+    }
+
+    /// One more. An error is want of memory.
+    pub fn push(&mut self, part: ExprPart) -> Result<(), AllocError>
+        ensures { OnOk result (self.new ≡ self.old ++ part ∷ []) }
+    {
+        self.inner.push(part.into_boxed().into_inner())
+    }
+
+    /// What it holds, as a node's list.
+    pub fn into_items(self) -> Items<Expr>
+        ensures { result ≡ self }
+    {
+        let ExprsPart { inner } = self;
         inner
     }
 }
@@ -184,6 +234,29 @@ impl StmtsPart {
         ensures { result ≡ inner }
     {
         StmtsPart { inner }
+    }
+
+    /// No statements yet.
+    pub fn empty(alloc: Global) -> StmtsPart
+        ensures { result ≡ [] }
+    {
+        StmtsPart {
+            inner: Items::new(alloc),
+        }
+    }
+
+    /// One more. An error is want of memory.
+    pub fn push(&mut self, part: StmtPart) -> Result<(), AllocError>
+        ensures { OnOk result (self.new ≡ self.old ++ part ∷ []) }
+    {
+        self.inner.push(part.into_boxed().into_inner())
+    }
+
+    /// More after these. An error is want of memory.
+    pub fn append(&mut self, more: StmtsPart) -> Result<(), AllocError>
+        ensures { OnOk result (self.new ≡ self.old ++ more) }
+    {
+        self.inner.append(more.into_items())
     }
 
     /// What it holds.
