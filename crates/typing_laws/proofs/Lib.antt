@@ -12,3 +12,5 @@ pub mod IntegerKinds
 pub mod TypedCores
 pub mod TypedValues
 pub mod TypedOperators
+pub mod TypedObjects
+pub mod TypedExpressions
