@@ -1,5 +1,5 @@
 -- What rules on objects make of operands that fit fits: assignments, elements, members, blocks of the heap.
-use Rattle.std.proofs.Common.{◌≡◌, ℕ, Bool, true, false, ◌&&◌, List, length, Option, Some, None, Ok, Err, refl, sym, ap, subst, ◌∙◌}
+use Rattle.std.proofs.Common.{◌≡◌, ℕ, true, false, List, length, Some, Ok, refl, sym, ap, subst, ◌∙◌}
 use Rattle.std.specs.Prelude.{pos, if◌then◌else◌}
 use Rattle.c_lexer.specs.declared.token.Place.{Place}
 use Rattle.step_meaning.specs.declared.value.IntKind.{IntKind}
@@ -19,13 +19,12 @@ use Rattle.step_meaning.specs.declared.expr.Expr.TheBlock.{shape-the_row-Expr-0,
 use Rattle.step_meaning.specs.declared.expr.Place_.{Place_}
 use Rattle.step_meaning.specs.declared.program.Core.{Core}
 use Rattle.step_meaning.specs.declared.program.Layout.{Layout}
-use Rattle.step_meaning.specs.Types.{same_type}
 use Rattle.step_meaning.specs.TypeRules.{cells, is_scalar, member_type}
-use Rattle.step_meaning.specs.Conversions.{same_int_kind, is_promoted, promoted, common}
+use Rattle.step_meaning.specs.Conversions.{same_int_kind, promoted, common}
 use Rattle.step_meaning.specs.Settings.{Setting}
-use Rattle.step_meaning.specs.ExpressionTypes.{type_of, type_of_place, pointer_to, is_void, is_shift, has_kind, has_promoted_kind, is_operation, is_sum, is_one_of, may_answer, is_allocated_type}
-use Rattle.step_meaning.proofs.Ranges.{false_is_not_true, and_true, left_of_and, right_of_and}
-use Rattle.step_meaning.proofs.SameTypes.{same_itself, number_same, same_type_equal}
+use Rattle.step_meaning.specs.ExpressionTypes.{type_of, type_of_place, pointer_to, is_void, is_shift, is_operation, is_sum, is_one_of, may_answer, is_allocated_type}
+use Rattle.step_meaning.proofs.Ranges.{false_is_not_true, and_true}
+use Rattle.step_meaning.proofs.SameTypes.{same_itself, number_same}
 use Rattle.step_meaning.proofs.TypedMemory.{WhereSome}
 use Rattle.typing_rules.specs.declared.fault.TypeFault.TheVariants.{Mismatch, Unknown}
 use Rattle.typing_rules.specs.declared.judgement.Shape.{Shape}
@@ -36,7 +35,7 @@ use Rattle.typing_rules.specs.declared.operand.Operand.{Operand}
 use Rattle.typing_rules.specs.declared.operand.Value.{Value}
 use Rattle.typing_rules.specs.declared.operand.What.{What}
 use Rattle.typing_rules.specs.declared.operand.What.TheVariants.{At, Made}
-use Rattle.typing_rules.specs.Checked.{Checked, ◌>>=◌, kept}
+use Rattle.typing_rules.specs.Checked.{kept}
 use Rattle.typing_rules.specs.Environment.{Environment}
 use Rattle.typing_rules.specs.Judgements.{shape, is_scalar_shape, is_integer_shape, is_pointer, is_null, compound_on_integers, compound_operation}
 use Rattle.typing_rules.specs.Declarations.{is_complete, array_of}
@@ -47,9 +46,9 @@ use Rattle.typing_rules.specs.Subobjects.{Base, InArray, BehindPointer, before_i
 use Rattle.typing_rules.specs.Allocation.{Request, objects, allocated, is_allocated, freed}
 use Rattle.typing_rules.proofs.OperandsFit.{brought_fits}
 use Rattle.typing_laws.specs.SmallTypes.{WhereOk}
-use Rattle.typing_laws.proofs.CheckedValues.{then_holds, then_known, kept_holds, if_holds}
-use Rattle.typing_laws.proofs.IntegerKinds.{same_kind_itself, promoted_is_promoted, common_is_promoted, common_again, common_with_int}
-use Rattle.typing_laws.proofs.TypedCores.{literal_typed, pointee_typed, element_typed, member_typed, moved_typed, assigned_typed, updated_typed, malloc_typed, free_typed}
+use Rattle.typing_laws.proofs.CheckedValues.{then_holds, kept_holds, if_holds}
+use Rattle.typing_laws.proofs.IntegerKinds.{same_kind_itself, promoted_is_promoted, common_again, common_with_int}
+use Rattle.typing_laws.proofs.TypedCores.{pointee_typed, element_typed, member_typed, moved_typed, assigned_typed, updated_typed, malloc_typed, free_typed}
 use Rattle.typing_laws.proofs.TypedValues.{is_value_type, OfShape, of_shape, pointer_of_shape, scalar_of_shape, pointer_valued, pointee_complete, scalar_valued, Typed, Placed, ValueFits, WhatFits, OperandFits, loaded_fits, value_fits}
 use Rattle.typing_laws.proofs.TypedOperators.{CellsStay, unit_stays, IsTaken, fitted_fits}
 use denote.Hole.Carrier.{hidden}
