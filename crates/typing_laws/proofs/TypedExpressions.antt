@@ -51,6 +51,7 @@ use Rattle.typing_rules.specs.Subobjects.{base_of}
 use Rattle.typing_rules.specs.Allocation.{Request, product}
 use Rattle.typing_rules.specs.Expressions.{kind_of, literal, numbered, is_library_number, is_malloc_number, is_free_number, is_star, named, called_core, called, malloc_called, free_called, called_entry, fitted_argument, tail, prefixed, assigned_by, operand, arguments, only_value, only_request, requested, measured, most_nodes, full}
 use Rattle.typing_laws.specs.SmallTypes.{WhereOk}
+use Rattle.typing_laws.specs.ParsedSyntax.{ExpressionParsed, ExpressionsParsed}
 use Rattle.typing_laws.proofs.CheckedValues.{then_holds, then_known, kept_holds, if_holds, weaker, some_mapped}
 use Rattle.typing_laws.proofs.DeclaredNames.{none_left, none_then, not_false}
 use Rattle.typing_laws.proofs.TypedCores.{literal_typed, unary_typed, put_typed, ArgumentsFit, invoked_typed}
@@ -89,37 +90,6 @@ module _ (q : Core) (s : Setting) (g : Environment) where
     pub cells : CellsStay q s g.layouts
     pub members : MembersStay q s g.layouts
     pub allocation : AllocationStays q s g.layouts g
-
--- ---- constants
-
--- a character has a value of `int`
-abbrev pub IsCharacter : Environment → Leaf → Type 0
-IsCharacter g t = IsTrue (is_in_range kind.Int (pos (character_value (bytes_in g t))))
-
--- what the characters of an expression are
-abbrev mutual
-  pub CharactersFit : Environment → Expression → Type 0
-  CharactersFit g (Name t) = Unit {0}
-  CharactersFit g (Number t) = Unit {0}
-  CharactersFit g (Character t) = IsCharacter g t
-  CharactersFit g (Paren t x) = CharactersFit g x
-  CharactersFit g (Call t xs) = AllCharactersFit g xs
-  CharactersFit g (Index x t i) = CharactersFit g x × CharactersFit g i
-  CharactersFit g (Member x t m) = CharactersFit g x
-  CharactersFit g (Arrow x t m) = CharactersFit g x
-  CharactersFit g (Increment x t) = CharactersFit g x
-  CharactersFit g (Decrement x t) = CharactersFit g x
-  CharactersFit g (Prefix t x) = CharactersFit g x
-  CharactersFit g (Cast t u x) = CharactersFit g x
-  CharactersFit g (SizeOf t x) = CharactersFit g x
-  CharactersFit g (SizeOfType t u) = Unit {0}
-  CharactersFit g (Binary x t y) = CharactersFit g x × CharactersFit g y
-  CharactersFit g (Choose x t y z) = CharactersFit g x × CharactersFit g y × CharactersFit g z
-  CharactersFit g (Assign x t y) = CharactersFit g x × CharactersFit g y
-
-  pub AllCharactersFit : Environment → Expressions → Type 0
-  AllCharactersFit g NoMore = Unit {0}
-  AllCharactersFit g (Then x xs) = CharactersFit g x × AllCharactersFit g xs
 
 -- ---- numbers
 
@@ -326,7 +296,7 @@ module _ (q : Core) (s : Setting) (g : Environment) where
     mutual
       unfolding operand
 
-      pub operand_fits : (x : Expression) → CharactersFit g x → WhereOk O (operand g x)
+      pub operand_fits : (x : Expression) → ExpressionParsed g.text x → WhereOk O (operand g x)
       operand_fits (Name t) c = then_holds (NameFits q s g (bytes_in g t)) O (entry g t) (named g t) (entry_fits agrees t) (λ x h. named_fits (bytes_in g t) t x h)
       operand_fits (Number t) c = numbered_fits (place_of t) (bytes_in g t)
       operand_fits (Character t) c = record { typed = literal_typed q s kind.Int (character_value (bytes_in g t)) refl c (not_negative (character_value (bytes_in g t))); valued = refl }
@@ -370,7 +340,7 @@ module _ (q : Core) (s : Setting) (g : Environment) where
           then_holds O O (operand g y) _ (operand_fits y c.1) (λ b i.
           then_holds V O (value b) _ (value_fits q s (length g.layouts) b i) (λ v j. assigned_by_fits t (compound_of t.word) a v h j)))
 
-      arguments_fit : (xs : Expressions) → AllCharactersFit g xs → (ts : List CType) → WhereOk (λ es. AreBrought es ts) (arguments g xs ts)
+      arguments_fit : (xs : Expressions) → ExpressionsParsed g.text xs → (ts : List CType) → WhereOk (λ es. AreBrought es ts) (arguments g xs ts)
       arguments_fit NoMore c ts = tt
       arguments_fit (Then x xs) c ts =
           then_holds O (λ es. AreBrought es ts) (operand g x) _ (operand_fits x c.0) (λ a h.
@@ -378,17 +348,17 @@ module _ (q : Core) (s : Setting) (g : Environment) where
           then_holds (IsFirstOf ts) (λ es. AreBrought es ts) (fitted_argument g ts v) _ (fitted_argument_fits ts v j) (λ y k.
           then_holds (λ es. AreBrought es (tail g ts)) (λ es. AreBrought es ts) (arguments g xs (tail g ts)) _ (arguments_fit xs c.1 (tail g ts)) (λ ys l. k ys l))))
 
-      value_alone : (xs : Expressions) → AllCharactersFit g xs → WhereSome (WhereOk V) (only_value g xs)
+      value_alone : (xs : Expressions) → ExpressionsParsed g.text xs → WhereSome (WhereOk V) (only_value g xs)
       value_alone NoMore c = tt
       value_alone (Then x NoMore) c = value_then (operand g x) (operand_fits x c.0)
       value_alone (Then x (Then y ys)) c = tt
 
-      request_alone : (xs : Expressions) → AllCharactersFit g xs → WhereSome (WhereOk R) (only_request g xs)
+      request_alone : (xs : Expressions) → ExpressionsParsed g.text xs → WhereSome (WhereOk R) (only_request g xs)
       request_alone NoMore c = tt
       request_alone (Then x NoMore) c = requested_fits x c.0
       request_alone (Then x (Then y ys)) c = tt
 
-      requested_fits : (x : Expression) → CharactersFit g x → WhereSome (WhereOk R) (requested g x)
+      requested_fits : (x : Expression) → ExpressionParsed g.text x → WhereSome (WhereOk R) (requested g x)
       requested_fits (Paren t x) c = requested_fits x c
       requested_fits (SizeOf t x) c = then_known R (operand g x) _ (λ a i. refl)
       requested_fits (SizeOfType t u) c = then_known R (spelled_type g u) _ (λ d i. refl)
@@ -398,7 +368,7 @@ module _ (q : Core) (s : Setting) (g : Environment) where
       requested_fits x c = tt
 
     -- a full expression gives a value
-    pub full_fits : (x : Expression) → CharactersFit g x → WhereOk V (full g x)
+    pub full_fits : (x : Expression) → ExpressionParsed g.text x → WhereOk V (full g x)
     unfolding full
     full_fits x c =
         then_holds O V (operand g x) _ (operand_fits x c) (λ a h.
