@@ -14,3 +14,5 @@ pub mod TypedValues
 pub mod TypedOperators
 pub mod TypedObjects
 pub mod TypedExpressions
+pub mod LaterStructs
+pub mod Completion
