@@ -16,3 +16,5 @@ pub mod TypedObjects
 pub mod TypedExpressions
 pub mod LaterStructs
 pub mod Completion
+pub mod ObjectParts
+pub mod FilledCells
