@@ -18,3 +18,4 @@ pub mod LaterStructs
 pub mod Completion
 pub mod ObjectParts
 pub mod FilledCells
+pub mod KeptFrames
