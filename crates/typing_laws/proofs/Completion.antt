@@ -80,12 +80,12 @@ bytes_same a b e = (bytes_eq-Decides a b).0 e
 pub bytes_itself : (a : List ℕ) → bytes_eq a a ≡ true
 bytes_itself a = (bytes_eq-Decides a a).1 refl
 
-get_at : {A : Type 0} (before : List A) (x : A) (xs : List A) → slice_get (before ++ (x ∷ xs)) (length before) ≡ Some x
+pub get_at : {A : Type 0} (before : List A) (x : A) (xs : List A) → slice_get (before ++ (x ∷ xs)) (length before) ≡ Some x
 get_at [] x xs = refl
 get_at (y ∷ before) x xs = get_at before x xs
 
 -- what holds of each element with its number
-numbered_from : {A B : Type 0} (Q : B → Type 0) (f : ℕ → A → B) (before xs : List A) → ((i : ℕ) (x : A) → slice_get (before ++ xs) i ≡ Some x → Q (f i x)) → AllByRecursion Q (numbered f (length before) xs)
+pub numbered_from : {A B : Type 0} (Q : B → Type 0) (f : ℕ → A → B) (before xs : List A) → ((i : ℕ) (x : A) → slice_get (before ++ xs) i ≡ Some x → Q (f i x)) → AllByRecursion Q (numbered f (length before) xs)
 numbered_from Q f before [] k = tt
 numbered_from Q f before (x ∷ xs) k =
     (k (length before) x (get_at before x xs),
@@ -125,7 +125,7 @@ IsLocal locals c (entry.Function f r ts) = ⊥
 abbrev pub AreLocals : List Named → ℕ → List Scope → Type 0
 AreLocals locals c scopes = AllByRecursion (AllByRecursion (λ x. IsLocal locals c x.1)) scopes
 
-type_later : (xs ys : List Named) (n : ℕ) (t : CType) → option_map (λ d. d.ctype) (slice_get xs n) ≡ Some t → option_map (λ d. d.ctype) (slice_get (xs ++ ys) n) ≡ Some t
+pub type_later : (xs ys : List Named) (n : ℕ) (t : CType) → option_map (λ d. d.ctype) (slice_get xs n) ≡ Some t → option_map (λ d. d.ctype) (slice_get (xs ++ ys) n) ≡ Some t
 type_later [] ys n t e = absurd (no e)
   where
     no : None ≡ Some t → ⊥

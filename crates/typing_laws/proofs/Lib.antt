@@ -19,3 +19,5 @@ pub mod Completion
 pub mod ObjectParts
 pub mod FilledCells
 pub mod KeptFrames
+pub mod DeclaredTypes
+pub mod KeptDeclarations
