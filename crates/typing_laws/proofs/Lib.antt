@@ -21,3 +21,4 @@ pub mod FilledCells
 pub mod KeptFrames
 pub mod DeclaredTypes
 pub mod KeptDeclarations
+pub mod KeptStatements
