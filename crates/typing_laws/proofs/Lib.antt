@@ -22,3 +22,4 @@ pub mod KeptFrames
 pub mod DeclaredTypes
 pub mod KeptDeclarations
 pub mod KeptStatements
+pub mod ConstantRanges
