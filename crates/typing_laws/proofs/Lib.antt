@@ -23,3 +23,4 @@ pub mod DeclaredTypes
 pub mod KeptDeclarations
 pub mod KeptStatements
 pub mod ConstantRanges
+pub mod AddressParts
