@@ -12,3 +12,15 @@ pub mod IntegerKinds
 pub mod TypedCores
 pub mod TypedValues
 pub mod TypedOperators
+pub mod TypedObjects
+pub mod TypedExpressions
+pub mod LaterStructs
+pub mod Completion
+pub mod ObjectParts
+pub mod FilledCells
+pub mod KeptFrames
+pub mod DeclaredTypes
+pub mod KeptDeclarations
+pub mod KeptStatements
+pub mod ConstantRanges
+pub mod AddressParts

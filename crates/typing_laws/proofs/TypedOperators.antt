@@ -1,9 +1,8 @@
 -- What operators make of values that fit fits.
-use Rattle.std.proofs.Common.{◌≡◌, ℕ, Bool, true, false, ◌&&◌, List, length, Option, Some, None, Ok, Err, refl, sym, ap, subst, ◌∙◌}
+use Rattle.std.proofs.Common.{◌≡◌, Bool, true, false, ◌&&◌, List, length, Option, Some, None, refl, sym, ap, subst, ◌∙◌}
 use Rattle.std.specs.Prelude.{if◌then◌else◌}
 use Rattle.c_lexer.specs.declared.token.Place.{Place}
 use Rattle.step_meaning.specs.declared.value.IntKind.{IntKind}
-use Rattle.step_meaning.specs.declared.value.IntKind.TheVariants as kind
 use Rattle.step_meaning.specs.declared.value.CType.{CType, end_of-CType, more_of-CType}
 use Rattle.step_meaning.specs.declared.value.CType.TheVariants as type
 use Rattle.step_meaning.specs.declared.expr.IntOp.{IntOp}
@@ -15,24 +14,24 @@ use Rattle.step_meaning.specs.declared.expr.Expr.TheVariants as e
 use Rattle.step_meaning.specs.declared.program.Core.{Core}
 use Rattle.step_meaning.specs.declared.program.Layout.{Layout}
 use Rattle.step_meaning.specs.Types.{same_type, where_true}
-use Rattle.step_meaning.specs.TypeRules.{cells, is_scalar}
+use Rattle.step_meaning.specs.TypeRules.{cells}
 use Rattle.step_meaning.specs.Conversions.{is_promoted, promoted, common}
 use Rattle.step_meaning.specs.Settings.{Setting}
 use Rattle.step_meaning.specs.ExpressionTypes.{type_of, pointer_to, is_void, is_shift, is_equality, is_register, is_taken_by}
-use Rattle.step_meaning.proofs.Ranges.{false_is_not_true, left_of_and, right_of_and}
+use Rattle.step_meaning.proofs.Ranges.{left_of_and, right_of_and}
 use Rattle.step_meaning.proofs.SameTypes.{same_type_equal}
 use Rattle.step_meaning.proofs.TypedMemory.{WhereSome}
-use Rattle.typing_rules.specs.declared.fault.TypeFault.TheVariants.{Mismatch, NotPlace}
+use Rattle.typing_rules.specs.declared.fault.TypeFault.TheVariants.{Mismatch}
 use Rattle.typing_rules.specs.declared.judgement.Shape.{Shape}
 use Rattle.typing_rules.specs.declared.judgement.Shape.TheVariants as is
 use Rattle.typing_rules.specs.declared.judgement.Operator.{Operator}
 use Rattle.typing_rules.specs.declared.judgement.Operator.TheVariants as operator
 use Rattle.typing_rules.specs.declared.judgement.Operation.{Operation}
-use Rattle.typing_rules.specs.declared.judgement.Operation.TheVariants.{Arithmetic, Shift, MovePointer, PointerDifference, CompareIntegers, ComparePointers, CompareWithNull, CompareNullWith, LogicalAnd, LogicalOr}
+use Rattle.typing_rules.specs.declared.judgement.Operation.TheVariants.{Arithmetic, Shift, MovePointer, PointerDifference, LogicalAnd, LogicalOr}
 use Rattle.typing_rules.specs.declared.judgement.Conversion.{Conversion}
 use Rattle.typing_rules.specs.declared.judgement.Conversion.TheVariants as conversion_is
 use Rattle.typing_rules.specs.declared.judgement.Selection.{Selection}
-use Rattle.typing_rules.specs.declared.judgement.Selection.TheVariants.{OfIntegers, OfOneType, NullLast, NullFirst}
+use Rattle.typing_rules.specs.declared.judgement.Selection.TheVariants.{OfOneType, NullLast, NullFirst}
 use Rattle.typing_rules.specs.declared.judgement.CastConversion.{CastConversion}
 use Rattle.typing_rules.specs.declared.judgement.CastConversion.TheVariants as cast_is
 use Rattle.typing_rules.specs.declared.operand.Origin.{Origin}
@@ -41,17 +40,17 @@ use Rattle.typing_rules.specs.declared.operand.Operand.{Operand}
 use Rattle.typing_rules.specs.declared.operand.Value.{Value}
 use Rattle.typing_rules.specs.declared.operand.What.{What}
 use Rattle.typing_rules.specs.declared.operand.What.TheVariants.{At, Made}
-use Rattle.typing_rules.specs.Checked.{Checked, ◌>>=◌, kept}
+use Rattle.typing_rules.specs.Checked.{kept}
 use Rattle.typing_rules.specs.Judgements.{shape, is_scalar_shape, is_pointer, is_null, on_integers, on_pointers, arithmetic, relation_of_pointers, relation, operation, to_pointer, conversion, are_alike, selection, cast_conversion}
 use Rattle.typing_rules.specs.Declarations.{is_complete}
-use Rattle.typing_rules.specs.Operands.{made, brought, converted_by, fitted}
+use Rattle.typing_rules.specs.Operands.{brought, converted_by, fitted}
 use Rattle.typing_rules.specs.Operators.{unit, computed, combined, selected, choice_of, cast_by, cast, promoted_value, promoting, negation, address_at, address, pointee, dereferenced}
 use Rattle.typing_rules.proofs.OperandsFit.{brought_fits}
 use Rattle.typing_laws.specs.SmallTypes.{WhereOk}
 use Rattle.typing_laws.proofs.CheckedValues.{then_holds, kept_holds, if_holds}
 use Rattle.typing_laws.proofs.IntegerKinds.{promoted_is_promoted, common_is_promoted}
 use Rattle.typing_laws.proofs.TypedCores.{binary_typed, shift_typed, compared_integers_typed, compared_pointers_typed, compared_with_null_typed, compared_null_with_typed, difference_typed, moved_typed, moved_last_typed, moved_back_typed, not_typed, both_typed, either_typed, discarded_typed, chosen_integers_typed, chosen_pointers_typed, chosen_void_typed, chosen_null_last_typed, chosen_null_first_typed, pointee_typed, address_typed, taken_itself, taken_null}
-use Rattle.typing_laws.proofs.TypedValues.{is_value_type, OfShape, of_shape, pointer_of_shape, scalar_of_shape, pointer_valued, pointee_complete, Typed, Placed, ValueFits, WhatFits, OperandFits, IsCondition}
+use Rattle.typing_laws.proofs.TypedValues.{is_value_type, OfShape, of_shape, pointer_of_shape, scalar_of_shape, pointer_valued, pointee_complete, Typed, ValueFits, WhatFits, OperandFits, IsCondition}
 
 module _ (q : Core) (s : Setting) (ls : List Layout) where
   abbrev V : Value → Type 0

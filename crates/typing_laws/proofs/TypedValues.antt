@@ -1,15 +1,13 @@
 -- What is kept of operands and values: their cores have the types that they say, which are those of objects and of values in the program.
-use Rattle.std.proofs.Common.{◌≡◌, ℕ, Bool, true, false, List, length, Option, Some, None, Ok, Err, refl, sym, ap, subst, ◌∙◌}
+use Rattle.std.proofs.Common.{◌≡◌, ℕ, Bool, true, false, Some, refl, sym}
 use Rattle.c_lexer.specs.declared.token.Place.{Place}
-use Rattle.step_meaning.specs.declared.value.IntKind.{IntKind}
 use Rattle.step_meaning.specs.declared.value.CType.{CType, end_of-CType, more_of-CType}
 use Rattle.step_meaning.specs.declared.value.CType.TheVariants as type
 use Rattle.step_meaning.specs.declared.expr.Expr.{Expr}
 use Rattle.step_meaning.specs.declared.expr.Place_.{Place_}
 use Rattle.step_meaning.specs.declared.program.Core.{Core}
-use Rattle.step_meaning.specs.declared.program.Layout.{Layout}
 use Rattle.step_meaning.specs.Settings.{Setting}
-use Rattle.step_meaning.specs.TypeRules.{cells, is_scalar}
+use Rattle.step_meaning.specs.TypeRules.{is_scalar}
 use Rattle.step_meaning.specs.ExpressionTypes.{type_of, type_of_place, pointer_to, is_void, is_register, has_scalar_type}
 use Rattle.step_meaning.specs.Library.{void_pointer}
 use Rattle.step_meaning.proofs.Ranges.{false_is_not_true}
@@ -22,7 +20,6 @@ use Rattle.typing_rules.specs.declared.operand.What.TheVariants.{At, Made}
 use Rattle.typing_rules.specs.Judgements.{shape, is_scalar_shape, is_pointer}
 use Rattle.typing_rules.specs.Declarations.{is_complete}
 use Rattle.typing_rules.specs.Operands.{loaded, value_of, value, condition}
-use Rattle.typing_rules.specs.Operators.{unit}
 use Rattle.typing_laws.specs.SmallTypes.{WhereOk}
 use Rattle.typing_laws.proofs.CheckedValues.{if_holds}
 use Rattle.typing_laws.proofs.TypedCores.{loaded_typed, array_address_typed}

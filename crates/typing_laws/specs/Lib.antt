@@ -1,2 +1,3 @@
 pub mod SmallTypes
 pub mod SmallPrograms
+pub mod ParsedSyntax
