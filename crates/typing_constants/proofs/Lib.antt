@@ -1,0 +1,3 @@
+pub mod ConstantForms
+pub mod PlaceForms
+pub mod Wholes
