@@ -1,0 +1,5 @@
+pub mod Follows
+pub mod PendingBounds
+pub mod Steps
+pub mod Falls
+pub mod RoomLaw
