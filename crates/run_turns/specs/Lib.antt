@@ -4,3 +4,4 @@ pub mod Turns
 pub mod Rest
 pub mod Weight
 pub mod Room
+pub mod Typed
