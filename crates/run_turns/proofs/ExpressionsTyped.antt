@@ -170,7 +170,7 @@ module _ (q : Core) (f : Function) where
   null_is_there : (e : Expr) → is_null_constant e ≡ true → is_some (ty e) ≡ true
   null_is_there e h = subst (λ e. is_some (ty e) ≡ true) (sym (null_is e h)) refl
 
-  taken_is_there : (t : CType) (e : Expr) → is_taken_by t e (ty e) ≡ true → is_some (ty e) ≡ true
+  pub taken_is_there : (t : CType) (e : Expr) → is_taken_by t e (ty e) ≡ true → is_some (ty e) ≡ true
   taken_is_there t e h = either_true (has_this_type t (ty e)) _ (right_of_and (is_scalar t) _ h) (this_is_there t (ty e)) (λ k. null_is_there e (left_of_and (is_null_constant e) _ k))
 
   right_is_there : (o : IntOp) (k : IntKind) (b : Option CType) → cond (is_shift o) (has_promoted_kind b) (has_kind k b) ≡ true → is_some b ≡ true

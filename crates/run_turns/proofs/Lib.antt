@@ -5,3 +5,5 @@ pub mod Falls
 pub mod RoomLaw
 pub mod TypeTests
 pub mod ExpressionsTyped
+pub mod ValuesTyped
+pub mod StatementsTyped

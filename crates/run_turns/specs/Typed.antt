@@ -24,6 +24,7 @@ use Rattle.step_meaning.specs.Names.{integer, of_truth}
 use Rattle.step_meaning.specs.Conversions.{is_promoted}
 use Rattle.step_meaning.specs.Library.{int}
 use Rattle.step_meaning.specs.Settings.{Setting, code_setting}
+use Rattle.step_meaning.specs.Memory.{Memory}
 use Rattle.step_meaning.specs.State.{Registers, Lvalue, InRegister, At, designated}
 use Rattle.step_meaning.specs.Statements.{Completion, Next, Broken, Continued, Returned}
 use Rattle.step_meaning.specs.ExpressionTypes.{type_of, type_of_place, is_null_constant, is_register, parameter_types, called, has_body}
@@ -277,10 +278,12 @@ module _ (q : Core) where
   AllRegistersFit [] r cs = Unit {0}
   AllRegistersFit (f ∷ fs) r cs = RegistersFit (register_types f) r × CallersFit fs cs
 
-  -- with these activations open
-  pub record IsTyped (fs : List Function) (m : Configuration) : Type 0 where
+  -- the memory and the registers, with these activations open
+  pub record StateFits (fs : List Function) (memory : Memory) (allocated : ℕ) (registers : Registers) (callers : List pending.Caller) : Type 0 where
     pub shapes : List Shape
-    pub memory : MemoryFits (global_cells q) shapes m.memory
-    pub heap : HeapFalls m.memory m.allocated
-    pub registers : AllRegistersFit fs m.context.registers m.context.callers
-    pub takes : Takes fs m.context.arguments m.work m.told
+    pub memory_fits : MemoryFits (global_cells q) shapes memory
+    pub heap_falls : HeapFalls memory allocated
+    pub registers_fit : AllRegistersFit fs registers callers
+
+  abbrev pub IsTyped : List Function → Configuration → Type 0
+  IsTyped fs m = StateFits fs m.memory m.allocated m.context.registers m.context.callers × Takes fs m.context.arguments m.work m.told
