@@ -43,7 +43,7 @@ use Rattle.step_meaning.proofs.TypedOperators.{OfType, of_cell, where_true_fits,
 use Rattle.step_meaning.proofs.TypedPlaces.{Designates, all_some}
 use Rattle.run_turns.specs.Pending as pending
 use Rattle.run_turns.specs.Turns.{Configuration, evaluated, located, ready}
-use Rattle.run_turns.specs.Typed.{IsInteger, IsObject, TakesKind, TakesTruth, TakesAddress, TakesObject, BinaryFits, MoveFits, DifferenceFits, UpdateFits, UpdatedFits, IsTypable, MayGive, IsTypablePlace, MayDesignate, MayGiveAll, Evaluates, OperandTakes, AccessTakes, SelectionTakes, DesignationTakes, CallTakes, TakesValue, TakesLvalue, TakesEnd, Takes}
+use Rattle.run_turns.specs.Typed.{IsInteger, IsObject, TakesKind, TakesTruth, TakesAddress, TakesObject, BinaryFits, MoveFits, DifferenceFits, UpdateFits, UpdatedFits, IsTypable, MayGive, IsTypablePlace, MayDesignate, MayGiveAll, Evaluates, OperandTakes, AccessTakes, SelectionTakes, DesignationTakes, CallTakes, TakesValue, TakesLvalue, TakesEnd, Takes, StateFits, IsTyped}
 use Rattle.run_turns.proofs.TypeTests.{OfSome, some_tells, this_is_there, scalar_is_there, integer_is_there, promoted_is_there, pointer_is_there, of_this, of_kind, of_integer, of_pointer, truth_of_type, right_operand}
 
 -- ---- null pointer constants
@@ -526,35 +526,38 @@ module _ (q : Core) (f : Function) where
 
 -- ---- the turn
 
-module _ (q : Core) (f : Function) (fs : List Function) (vs : List Value) where
-  pub evaluated_takes : (e : Expr) (m : Configuration) → Evaluates q f e (TakesValue q (f ∷ fs) vs m.work) → Takes q (f ∷ fs) vs (evaluated e (ready m)).work (evaluated e (ready m)).told
-  evaluated_takes (Literal k z) m h =
-      let c = some_tells (is_promoted k && (is_in_range k z && int_le (pos 0) z)) (type.Int k) h.0 in
-      h.1 (value.Int z) (where_true_fits (λ t. OfType t (value.Int z)) _ (type.Int k) (λ e. (left_of_and (is_in_range k z) _ (right_of_and (is_promoted k) _ c), tt)), λ n. false_is_not_true n)
-  evaluated_takes Null m h = h.1 value.Null ((tt, tt), λ n. refl)
-  evaluated_takes (Load p t) m h = load_takes q f _ p t h
-  evaluated_takes (Address p t) m h = address_takes q f _ p t h
-  evaluated_takes (Convert' k b (more_of-Expr e end_of-Expr)) m h = convert_takes q f _ k b e h
-  evaluated_takes (Unary' o k b (more_of-Expr e end_of-Expr)) m h = unary_takes q f _ o k b e h
-  evaluated_takes (Binary' o k b (more_of-Expr e end_of-Expr) c (more_of-Expr g end_of-Expr)) m h = binary_takes q f _ o k b c e g h
-  evaluated_takes (Compare' o b (more_of-Expr e end_of-Expr) c (more_of-Expr g end_of-Expr)) m h = compare_takes q f _ o b c e g h
-  evaluated_takes (Move' b (more_of-Expr e end_of-Expr) c (more_of-Expr g end_of-Expr) size side) m h = move_takes q f _ b c e g size side h
-  evaluated_takes (Difference' b (more_of-Expr e end_of-Expr) c (more_of-Expr g end_of-Expr) unit) m h = difference_takes q f _ b c e g unit h
-  evaluated_takes (Not' b (more_of-Expr e end_of-Expr)) m h = not_takes q f _ b e h
-  evaluated_takes (Both' b (more_of-Expr e end_of-Expr) c (more_of-Expr g end_of-Expr)) m h = both_takes q f _ b c e g h
-  evaluated_takes (Either' b (more_of-Expr e end_of-Expr) c (more_of-Expr g end_of-Expr)) m h = either_takes q f _ b c e g h
-  evaluated_takes (Choose' b (more_of-Expr e end_of-Expr) c (more_of-Expr g end_of-Expr) d (more_of-Expr k end_of-Expr)) m h = choose_takes q f _ b c d e g k h
-  evaluated_takes (Assign' p t b (more_of-Expr e end_of-Expr)) m h = assign_takes q f _ p t b e h
-  evaluated_takes (Update' p t u b (more_of-Expr e end_of-Expr) w) m h = update_takes q f _ p t u b e w h
-  evaluated_takes (Invoke' g b es) m h = invoke_takes q f _ g es h.0 (λ v x. h.1 v (x, λ n. false_is_not_true n))
-  evaluated_takes GetChar m h = λ z r. h.1 (value.Int z) ((r, tt), λ n. false_is_not_true n)
-  evaluated_takes (PutChar' b (more_of-Expr e end_of-Expr)) m h = put_takes q f _ b e h
-  evaluated_takes (Malloc' b (more_of-Expr e end_of-Expr) t) m h = malloc_takes q f _ b e t h
-  evaluated_takes (Free' b (more_of-Expr e end_of-Expr)) m h = free_takes q f _ b e h
-  evaluated_takes (Discard' b (more_of-Expr e end_of-Expr)) m h = discard_takes q f _ b e h
+module _ (q : Core) (f : Function) (fs : List Function) where
+  abbrev Fits : Configuration → Type 0
+  Fits m = StateFits q (f ∷ fs) m.memory m.allocated m.context.registers m.context.callers
 
-  pub located_takes : ((i : ℕ) → WhereSome (λ t. is_scalar t ≡ true) (option_map (λ d. d.ctype) (slice_get f.registers i))) → (p : Place_) (m : Configuration) → IsTypablePlace q f p × ((l : Lvalue) → MayDesignate q f p l → TakesLvalue q (f ∷ fs) vs m.work l) → Takes q (f ∷ fs) vs (located p (ready m)).work (located p (ready m)).told
-  located_takes scalars (Own v) m h = own_takes q f _ scalars m.context.here.activation v.kind v.index h
-  located_takes scalars (Deref' b (more_of-Expr e end_of-Expr)) m h = deref_takes q f _ b e h
-  located_takes scalars (Member' b (more_of-Place_ p end_of-Place_) o) m h = member_takes q f _ b p o h
-  located_takes scalars (Index' b (more_of-Place_ p end_of-Place_) c (more_of-Expr e end_of-Expr) size) m h = element_takes q f _ b c p e size h
+  pub evaluated_typed : (e : Expr) (m : Configuration) → Fits m → Evaluates q f e (TakesValue q (f ∷ fs) m.context.arguments m.work) → IsTyped q (f ∷ fs) (evaluated e (ready m))
+  evaluated_typed (Literal k z) m s h =
+      let c = some_tells (is_promoted k && (is_in_range k z && int_le (pos 0) z)) (type.Int k) h.0 in
+      (s, h.1 (value.Int z) (where_true_fits (λ t. OfType t (value.Int z)) _ (type.Int k) (λ e. (left_of_and (is_in_range k z) _ (right_of_and (is_promoted k) _ c), tt)), λ n. false_is_not_true n))
+  evaluated_typed Null m s h = (s, h.1 value.Null ((tt, tt), λ n. refl))
+  evaluated_typed (Load p t) m s h = (s, load_takes q f _ p t h)
+  evaluated_typed (Address p t) m s h = (s, address_takes q f _ p t h)
+  evaluated_typed (Convert' k b (more_of-Expr e end_of-Expr)) m s h = (s, convert_takes q f _ k b e h)
+  evaluated_typed (Unary' o k b (more_of-Expr e end_of-Expr)) m s h = (s, unary_takes q f _ o k b e h)
+  evaluated_typed (Binary' o k b (more_of-Expr e end_of-Expr) c (more_of-Expr g end_of-Expr)) m s h = (s, binary_takes q f _ o k b c e g h)
+  evaluated_typed (Compare' o b (more_of-Expr e end_of-Expr) c (more_of-Expr g end_of-Expr)) m s h = (s, compare_takes q f _ o b c e g h)
+  evaluated_typed (Move' b (more_of-Expr e end_of-Expr) c (more_of-Expr g end_of-Expr) size side) m s h = (s, move_takes q f _ b c e g size side h)
+  evaluated_typed (Difference' b (more_of-Expr e end_of-Expr) c (more_of-Expr g end_of-Expr) unit) m s h = (s, difference_takes q f _ b c e g unit h)
+  evaluated_typed (Not' b (more_of-Expr e end_of-Expr)) m s h = (s, not_takes q f _ b e h)
+  evaluated_typed (Both' b (more_of-Expr e end_of-Expr) c (more_of-Expr g end_of-Expr)) m s h = (s, both_takes q f _ b c e g h)
+  evaluated_typed (Either' b (more_of-Expr e end_of-Expr) c (more_of-Expr g end_of-Expr)) m s h = (s, either_takes q f _ b c e g h)
+  evaluated_typed (Choose' b (more_of-Expr e end_of-Expr) c (more_of-Expr g end_of-Expr) d (more_of-Expr k end_of-Expr)) m s h = (s, choose_takes q f _ b c d e g k h)
+  evaluated_typed (Assign' p t b (more_of-Expr e end_of-Expr)) m s h = (s, assign_takes q f _ p t b e h)
+  evaluated_typed (Update' p t u b (more_of-Expr e end_of-Expr) w) m s h = (s, update_takes q f _ p t u b e w h)
+  evaluated_typed (Invoke' g b es) m s h = (s, invoke_takes q f _ g es h.0 (λ v x. h.1 v (x, λ n. false_is_not_true n)))
+  evaluated_typed GetChar m s h = (s, λ z r. h.1 (value.Int z) ((r, tt), λ n. false_is_not_true n))
+  evaluated_typed (PutChar' b (more_of-Expr e end_of-Expr)) m s h = (s, put_takes q f _ b e h)
+  evaluated_typed (Malloc' b (more_of-Expr e end_of-Expr) t) m s h = (s, malloc_takes q f _ b e t h)
+  evaluated_typed (Free' b (more_of-Expr e end_of-Expr)) m s h = (s, free_takes q f _ b e h)
+  evaluated_typed (Discard' b (more_of-Expr e end_of-Expr)) m s h = (s, discard_takes q f _ b e h)
+
+  pub located_typed : ((i : ℕ) → WhereSome (λ t. is_scalar t ≡ true) (option_map (λ d. d.ctype) (slice_get f.registers i))) → (p : Place_) (m : Configuration) → Fits m → IsTypablePlace q f p × ((l : Lvalue) → MayDesignate q f p l → TakesLvalue q (f ∷ fs) m.context.arguments m.work l) → IsTyped q (f ∷ fs) (located p (ready m))
+  located_typed scalars (Own v) m s h = (s, own_takes q f _ scalars m.context.here.activation v.kind v.index h)
+  located_typed scalars (Deref' b (more_of-Expr e end_of-Expr)) m s h = (s, deref_takes q f _ b e h)
+  located_typed scalars (Member' b (more_of-Place_ p end_of-Place_) o) m s h = (s, member_takes q f _ b p o h)
+  located_typed scalars (Index' b (more_of-Place_ p end_of-Place_) c (more_of-Expr e end_of-Expr) size) m s h = (s, element_takes q f _ b c p e size h)

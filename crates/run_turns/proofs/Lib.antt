@@ -7,3 +7,4 @@ pub mod TypeTests
 pub mod ExpressionsTyped
 pub mod ValuesTyped
 pub mod StatementsTyped
+pub mod CallsTyped

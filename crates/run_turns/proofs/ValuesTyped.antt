@@ -118,14 +118,14 @@ module _ (q : Core) (f : Function) (fs : List Function) where
     where
       by : (c : Option Cell) → reached m.memory p t ≡ c → Here (turns.written p v c m)
       by None e = (s, tt)
-      by (Some c) e = (record { shapes = s.shapes; memory_fits = stored_fits s.memory_fits p t v c e g; heap_falls = stored_falls m.memory p (Holds v) m.allocated s.heap_falls; registers_fit = s.registers_fit }, h)
+      by (Some c) e = (record { shapes = s.shapes; memory_fits = stored_fits s.memory_fits p t v c e g; heap_falls = stored_falls m.memory p (Holds v) m.allocated s.heap_falls; registers_fit = s.registers_fit; formed = s.formed }, h)
 
   written_register_typed : (t : CType) (i : ℕ) (v : Value) (m : Configuration) → Fits m → InCell t v → Values m v → Here (turns.written_register i v (register_at m.context.registers i t) m)
   written_register_typed t i v m s g h = by (register_at m.context.registers i t) refl
     where
       by : (c : Option Cell) → register_at m.context.registers i t ≡ c → Here (turns.written_register i v c m)
       by None e = (s, tt)
-      by (Some c) e = (record { shapes = s.shapes; memory_fits = s.memory_fits; heap_falls = s.heap_falls; registers_fit = (set_registers_fit (register_types q f) m.context.registers i t v c e g s.registers_fit.0, s.registers_fit.1) }, h)
+      by (Some c) e = (record { shapes = s.shapes; memory_fits = s.memory_fits; heap_falls = s.heap_falls; registers_fit = (set_registers_fit (register_types q f) m.context.registers i t v c e g s.registers_fit.0, s.registers_fit.1); formed = s.formed }, h)
 
   kept_typed : (t : CType) (l : Lvalue) (v : Value) (m : Configuration) → Fits m → InCell t v → Values m v → Here (turns.kept t l v m).after
   kept_typed t (InRegister i) v m s g h = written_register_typed t i v m s g h
@@ -172,11 +172,11 @@ module _ (q : Core) (f : Function) (fs : List Function) where
 
   allocated_typed : (count : ℕ) (b : Option Block) (m : Configuration) → Fits m → WhereSome BlockFits b → TakesAddress (Values m) → Here (turns.allocated_block count b m).after
   allocated_typed count None m s g h = (s, h value.Null tt)
-  allocated_typed count (Some b) m s g h = (record { shapes = s.shapes; memory_fits = block_begins s.memory_fits m.allocated b g; heap_falls = (omega arith, s.heap_falls); registers_fit = s.registers_fit }, h (block_pointer m.allocated) (omega arith, refl))
+  allocated_typed count (Some b) m s g h = (record { shapes = s.shapes; memory_fits = block_begins s.memory_fits m.allocated b g; heap_falls = (omega arith, s.heap_falls); registers_fit = s.registers_fit; formed = s.formed }, h (block_pointer m.allocated) (omega arith, refl))
 
   released_typed : (o : Option Memory) (m : Configuration) → (s : Fits m) → WhereSome (MemoryFits (global_cells q) s.shapes) o → WhereSome (λ memory. HeapFalls memory m.allocated) o → Values m (value.Int (pos 0)) → Here (turns.released o m)
   released_typed None m s g l h = (s, tt)
-  released_typed (Some memory) m s g l h = (record { shapes = s.shapes; memory_fits = g; heap_falls = l; registers_fit = s.registers_fit }, h)
+  released_typed (Some memory) m s g l h = (record { shapes = s.shapes; memory_fits = g; heap_falls = l; registers_fit = s.registers_fit; formed = s.formed }, h)
 
   -- ---- parts that wait for a value
 

@@ -29,6 +29,7 @@ use Rattle.step_meaning.specs.State.{Registers, Lvalue, InRegister, At, designat
 use Rattle.step_meaning.specs.Statements.{Completion, Next, Broken, Continued, Returned}
 use Rattle.step_meaning.specs.ExpressionTypes.{type_of, type_of_place, is_null_constant, is_register, parameter_types, called, has_body}
 use Rattle.step_meaning.specs.StatementRules.{StatementFits}
+use Rattle.step_meaning.specs.WellFormed.{IsWellFormedFunction}
 use Rattle.step_meaning.proofs.OperatorRanges.{InRange}
 use Rattle.step_meaning.proofs.TypedMemory.{WhereSome, InCell, Shape, MemoryFits, HeapFalls, is_empty}
 use Rattle.step_meaning.proofs.StepsFit.{IsAddress, InCells, global_cells}
@@ -284,6 +285,7 @@ module _ (q : Core) where
     pub memory_fits : MemoryFits (global_cells q) shapes memory
     pub heap_falls : HeapFalls memory allocated
     pub registers_fit : AllRegistersFit fs registers callers
+    pub formed : AllByRecursion (IsWellFormedFunction q) fs
 
   abbrev pub IsTyped : List Function → Configuration → Type 0
   IsTyped fs m = StateFits fs m.memory m.allocated m.context.registers m.context.callers × Takes fs m.context.arguments m.work m.told
