@@ -24,6 +24,7 @@ use Rattle.step_meaning.specs.TypeRules.{is_scalar, is_scalar_type, keeps_rules}
 use Rattle.step_meaning.specs.ExpressionTypes.{parameter_types, called, has_body}
 use Rattle.step_meaning.specs.StatementRules.{StatementFits, BodyFits}
 use Rattle.step_meaning.specs.WellFormed.{IsWellFormed, IsWellFormedFunction, OfBody, is_main}
+use Rattle.step_meaning.specs.Sources.{is_bare}
 use Rattle.step_meaning.specs.Traced.{SlotTyped}
 use Rattle.step_meaning.proofs.Ranges.{false_is_not_true, left_of_and, right_of_and}
 use Rattle.step_meaning.proofs.TypedMemory.{Each, WhereSome, drop_map, InCell, BlockFits, FrameFits, Shape, shape_of, MemoryFits, has_same_type, same_type_turned, is_empty}
@@ -37,7 +38,7 @@ use Rattle.step_meaning.proofs.FormedFunctions.{formed_function}
 use Rattle.run_turns.specs.Pending as pending
 use Rattle.run_turns.specs.Turns as turns
 use Rattle.run_turns.specs.Turns.{Configuration, ready, telling, turn_at}
-use Rattle.run_turns.specs.Typed.{CallTakes, EnterTakes, LeaveTakes, TakesValue, TakesLvalue, TakesEnd, Takes, CallersFit, AllRegistersFit, register_types, StateFits, IsTyped}
+use Rattle.run_turns.specs.Typed.{IsCode, CallTakes, EnterTakes, LeaveTakes, TakesValue, TakesLvalue, TakesEnd, Takes, CallersFit, AllRegistersFit, register_types, StateFits, IsTyped}
 use Rattle.run_turns.proofs.ExpressionsTyped.{evaluated_typed, located_typed}
 use Rattle.run_turns.proofs.ValuesTyped.{Here, Fits, operated_typed, accessed_typed, selected_typed, designating_typed}
 use Rattle.run_turns.proofs.StatementsTyped.{ShortLocals, executed_typed, concluded_typed, passed_typed}
@@ -206,8 +207,8 @@ module _ (q : Core) where
     body_fits : (callee : Function) (body : List Stmt) → callee.body ≡ Some body → OfBody (BodyFits q callee) callee.body → BodyFits q callee body
     body_fits callee body e k = subst (OfBody (BodyFits q callee)) e k
 
-    pub entered_typed : (fs : List Function) (g n : ℕ) (callee : Function) (body : List Stmt) (m : Configuration) → slice_get q.functions g ≡ Some callee → callee.body ≡ Some body → annotations body ≡ [] → after_annotations body ≡ body → StateFits q fs m.memory m.allocated m.context.registers m.context.callers → EnterTakes q fs g (pending.reversed_onto (take n m.context.arguments) []) (TakesValue q fs (drop n m.context.arguments) m.work) → IsTyped q (callee ∷ fs) (turns.entered q g callee body n m)
-    entered_typed fs g n callee body m found has none same s k = (state, (setting_of q callee, false, subst (λ ss. AllByRecursion (StatementFits q callee (setting_of q callee) false) ss) same fits.1, λ l c. (found, refl, c, takes)))
+    pub entered_typed : (fs : List Function) (g n : ℕ) (callee : Function) (body : List Stmt) (m : Configuration) → slice_get q.functions g ≡ Some callee → callee.body ≡ Some body → annotations body ≡ [] → after_annotations body ≡ body → AllByRecursion (λ s. IsTrue (is_bare s)) body → StateFits q fs m.memory m.allocated m.context.registers m.context.callers → EnterTakes q fs g (pending.reversed_onto (take n m.context.arguments) []) (TakesValue q fs (drop n m.context.arguments) m.work) → IsTyped q (callee ∷ fs) (turns.entered q g callee body n m)
+    entered_typed fs g n callee body m found has none same bare s k = (state, (setting_of q callee, false, code body (subst (λ ss. AllByRecursion (StatementFits q callee (setting_of q callee) false) ss) same fits.1) bare, λ l c. (found, refl, c, takes)))
       where
         some_equal : (a b : Function) → Some a ≡ Some b → a ≡ b
         some_equal a b e = cc
@@ -229,6 +230,10 @@ module _ (q : Core) where
 
         takes : (v : Value) → OfType callee.result v → TakesValue q fs (drop n m.context.arguments) m.work v
         takes = subst (λ fn. (v : Value) → OfType fn.result v → TakesValue q fs (drop n m.context.arguments) m.work v) (sym its) k.5
+
+        code : (ss : List Stmt) → AllByRecursion (StatementFits q callee (setting_of q callee) false) ss → AllByRecursion (λ s. IsTrue (is_bare s)) ss → AllByRecursion (IsCode q callee (setting_of q callee) false) ss
+        code [] h b = tt
+        code (x ∷ ss) h b = ((h.0, b.0), code ss h.1 b.1)
 
         own : Frame
         own = first_frame q.layouts callee m.made (pending.reversed_onto (take n m.context.arguments) [])

@@ -16,12 +16,13 @@ use Rattle.step_meaning.specs.State.{Lvalue, InRegister, At}
 use Rattle.step_meaning.specs.declared.value.Value.{Value}
 use Rattle.step_meaning.specs.declared.value.RunFault.{RunFault}
 use Rattle.step_meaning.specs.Names.{truth}
+use Rattle.step_meaning.specs.Sources.{is_bare}
+use Rattle.step_meaning.proofs.Ranges.{false_is_not_true}
 use Rattle.step_meaning.specs.Statements.{Completion, Next, Broken, Continued, Returned}
 use Rattle.run_turns.specs.Pending as pending
 use Rattle.run_turns.specs.Turns as turns
 use Rattle.run_turns.specs.Turns.{Configuration}
 use Rattle.run_turns.specs.Weight.{weigh, weigh_all, weigh_row, burden, burden_all, burden_row, weigh_if_any, weight_of_end, weight, load}
-use Rattle.run_turns.proofs.Follows.{IsSettled}
 
 row_weight : (n : _) (r : Row_of-Expr n) → weigh_all (items-the_row-Expr n r) ≡ weigh_row r
 row_weight n end_of-Expr = refl
@@ -59,12 +60,7 @@ evaluated_falls (Malloc' b (more_of-Expr e end_of-Expr) t) m = omega arith
 evaluated_falls (Free' b (more_of-Expr e end_of-Expr)) m = omega arith
 evaluated_falls (Discard' b (more_of-Expr e end_of-Expr)) m = omega arith
 
-abbrev pub IsStatementBuilt : Stmt → Type 0
-IsStatementBuilt (st.Ghost g) = ⊥
-IsStatementBuilt (st.Assert v k r) = ⊥
-IsStatementBuilt _ = Unit {0}
-
-pub executed_falls : (s : Stmt) → IsStatementBuilt s → (m : Configuration) → Falls (burden s) m (turns.executed s m)
+pub executed_falls : (s : Stmt) → is_bare s ≡ true → (m : Configuration) → Falls (burden s) m (turns.executed s m)
 executed_falls st.Empty h m = omega arith
 executed_falls (st.Eval e) h m = omega arith
 executed_falls (st.Init v o t e) h m = omega arith
@@ -77,8 +73,8 @@ executed_falls st.Break h m = omega arith
 executed_falls st.Continue h m = omega arith
 executed_falls (st.Return None) h m = omega arith
 executed_falls (st.Return (Some e)) h m = omega arith
-executed_falls (st.Ghost g) h m = absurd h
-executed_falls (st.Assert v k r) h m = absurd h
+executed_falls (st.Ghost g) h m = false_is_not_true h
+executed_falls (st.Assert v k r) h m = false_is_not_true h
 
 chosen_falls : (b : Bool) (w : ℕ) (m x y : Configuration) → Falls w m x → Falls w m y → Falls w m (cond b x y)
 chosen_falls true w m x y h g = h
@@ -212,7 +208,7 @@ designating_falls (pending.ElementNow l size) v m = object_falls l _ m
 
 -- ---- parts that wait until a statement is left
 
-next_falls : (ss : List Stmt) (l : Completion) (m : Configuration) → Falls (burden_all ss + 1) m (turns.on_next (turns.next_of ss (turns.ready m)) l m)
+pub next_falls : (ss : List Stmt) (l : Completion) (m : Configuration) → Falls (burden_all ss + 1) m (turns.on_next (turns.next_of ss (turns.ready m)) l m)
 next_falls [] Next m = omega arith
 next_falls (s ∷ ss) Next m = omega arith
 next_falls ss Broken m = omega arith
@@ -253,16 +249,8 @@ weight_of_end_is_some (st.Return e) = omega arith
 weight_of_end_is_some (st.Ghost g) = omega arith
 weight_of_end_is_some (st.Assert v k r) = omega arith
 
-turn_end_falls : (s : Stmt) (l : Completion) (m : Configuration) → Falls (weight_of_end s) m (turns.at_turn_end (turns.ending s m) l m)
+pub turn_end_falls : (s : Stmt) (l : Completion) (m : Configuration) → Falls (weight_of_end s) m (turns.at_turn_end (turns.ending s m) l m)
 turn_end_falls s Next m = ending_falls s m
 turn_end_falls s Continued m = ending_falls s m
 turn_end_falls s Broken m = omega (arith, weight_of_end_is_some s)
 turn_end_falls s (Returned v) m = omega (arith, weight_of_end_is_some s)
-
-pub passed_falls : (x : pending.Passing) (l : Completion) → IsSettled x l → (m : Configuration) → Falls (weight (pending.Pass x)) m (turns.passed x l m).after
-passed_falls (pending.Rest ss) l h m = next_falls ss l m
-passed_falls (pending.Again s) Next h m = absurd h
-passed_falls (pending.Again s) Continued h m = absurd h
-passed_falls (pending.Again s) Broken h m = omega arith
-passed_falls (pending.Again s) (Returned v) h m = omega arith
-passed_falls (pending.TurnEnd s) l h m = turn_end_falls s l m

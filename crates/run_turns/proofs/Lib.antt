@@ -8,3 +8,4 @@ pub mod ExpressionsTyped
 pub mod ValuesTyped
 pub mod StatementsTyped
 pub mod CallsTyped
+pub mod TurnLaws

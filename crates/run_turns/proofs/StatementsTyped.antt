@@ -20,6 +20,7 @@ use Rattle.step_meaning.specs.Statements.{Completion, Next, Broken, Continued, R
 use Rattle.step_meaning.specs.Settings.{Setting, code_setting, variable_type}
 use Rattle.step_meaning.specs.ExpressionTypes.{type_of, has_this_type, has_a_type, is_condition, gives}
 use Rattle.step_meaning.specs.StatementRules.{StatementFits, RowFits, where_there, cell_type, may_return}
+use Rattle.step_meaning.specs.Sources.{is_bare, are_bare}
 use Rattle.step_meaning.proofs.Ranges.{false_is_not_true, left_of_and, right_of_and}
 use Rattle.step_meaning.proofs.TypedMemory.{WhereSome, InCell}
 use Rattle.step_meaning.proofs.StepsFit.{ReturnFits}
@@ -28,7 +29,7 @@ use Rattle.step_meaning.proofs.TypedStatements.{CompletionFits}
 use Rattle.run_turns.specs.Pending as pending
 use Rattle.run_turns.specs.Turns as turns
 use Rattle.run_turns.specs.Turns.{Configuration, ready}
-use Rattle.run_turns.specs.Typed.{IsTypable, MayGive, Evaluates, Executes, ExecutesInLoop, IsLoop, EvaluatesAny, EndTakes, TurnEndTakes, LoopTakes, RestTakes, PassingTakes, ConclusionTakes, TakesEnd}
+use Rattle.run_turns.specs.Typed.{IsTypable, MayGive, Evaluates, IsCode, Executes, ExecutesInLoop, IsLoop, EvaluatesAny, EndTakes, TurnEndTakes, LoopTakes, RestTakes, PassingTakes, ConclusionTakes, TakesEnd}
 use Rattle.run_turns.proofs.TypeTests.{scalar_is_there}
 use Rattle.run_turns.proofs.ExpressionsTyped.{taken_of, taken_is_there}
 use Rattle.run_turns.proofs.ValuesTyped.{Here, Fits}
@@ -72,9 +73,9 @@ module _ (q : Core) (f : Function) (fs : List Function) where
 
   -- ---- the start of a statement
 
-  row_fits : {n : _} (noted : Setting) (loop : Bool) (ss : Row_of-Stmt n) → RowFits q f noted loop ss → AllByRecursion (StatementFits q f noted loop) (items-the_row-Stmt n ss)
-  row_fits noted loop end_of-Stmt h = tt
-  row_fits noted loop (more_of-Stmt s ss) h = (h.0, row_fits noted loop ss h.1)
+  row_fits : {n : _} (noted : Setting) (loop : Bool) (ss : Row_of-Stmt n) → RowFits q f noted loop ss → are_bare ss ≡ true → AllByRecursion (IsCode q f noted loop) (items-the_row-Stmt n ss)
+  row_fits noted loop end_of-Stmt h b = tt
+  row_fits noted loop (more_of-Stmt s ss) h b = ((h.0, left_of_and (is_bare s) _ b), row_fits noted loop ss h.1 (right_of_and (is_bare s) _ b))
 
   returns_nothing : (t : CType) → may_return q f t None ≡ true → ReturnFits t None
   returns_nothing type.Void h = tt
@@ -105,21 +106,21 @@ module _ (q : Core) (f : Function) (fs : List Function) where
 
   pub executed_typed : ShortLocals → (x : Stmt) (m : Configuration) → Fits q f fs m → Executes q f x (Ends m) → Here q f fs (turns.executed x (ready m))
   executed_typed shorts st.Empty m s h = (s, h.3 Next tt)
-  executed_typed shorts (st.Eval e) m s h = (s, (h.2, λ v x. h.3 Next tt))
+  executed_typed shorts (st.Eval e) m s h = (s, (h.2.0, λ v x. h.3 Next tt))
   executed_typed shorts (st.Init x o t e) m s h =
-      let c = right_of_and (nat_le f.params x.index) _ (right_of_and (same_kind x.kind Local) _ h.2) in
+      let c = right_of_and (nat_le f.params x.index) _ (right_of_and (same_kind x.kind Local) _ h.2.0) in
       let given = right_of_and (has_this_type t (cell_type q f (variable_type (code_setting q f) x) o)) _ c in
-      (s, (given_is_there t e given, λ v y. (init_place shorts x.kind x.index o t (left_of_and (same_kind x.kind Local) _ h.2) (left_of_and (has_this_type t (cell_type q f (variable_type (code_setting q f) x) o)) _ c), given_fits t e v given y, h.3 Next tt)))
-  executed_typed shorts (st.Block' b ss) m s h = (s, (h.0, h.1, row_fits h.0 h.1 ss h.2, h.3))
-  executed_typed shorts (st.If' e b (more_of-Stmt a end_of-Stmt) c (more_of-Stmt u end_of-Stmt)) m s h = (s, (condition_is_there e h.2.0, λ v x. ((h.0, h.1, h.2.1, h.3), (h.0, h.1, h.2.2, h.3))))
+      (s, (given_is_there t e given, λ v y. (init_place shorts x.kind x.index o t (left_of_and (same_kind x.kind Local) _ h.2.0) (left_of_and (has_this_type t (cell_type q f (variable_type (code_setting q f) x) o)) _ c), given_fits t e v given y, h.3 Next tt)))
+  executed_typed shorts (st.Block' b ss) m s h = (s, (h.0, h.1, row_fits h.0 h.1 ss h.2.0 h.2.1, h.3))
+  executed_typed shorts (st.If' e b (more_of-Stmt a end_of-Stmt) c (more_of-Stmt u end_of-Stmt)) m s h = (s, (condition_is_there e h.2.0.0, λ v x. ((h.0, h.1, (h.2.0.1, left_of_and (is_bare a) _ h.2.1), h.3), (h.0, h.1, (h.2.0.2, right_of_and (is_bare a) _ h.2.1), h.3))))
   executed_typed shorts (st.While' e b (more_of-Stmt a end_of-Stmt)) m s h = (s, (tt, h))
   executed_typed shorts (st.Do' b (more_of-Stmt a end_of-Stmt) e) m s h = (s, (tt, h))
   executed_typed shorts (st.For' test step b (more_of-Stmt a end_of-Stmt)) m s h = (s, (tt, h))
-  executed_typed shorts st.Break m s h = (s, h.3 Broken h.2)
-  executed_typed shorts st.Continue m s h = (s, h.3 Continued h.2)
-  executed_typed shorts (st.Return e) m s h = answering_typed e m s h.2 (λ v r. h.3 (Returned v) r)
-  executed_typed shorts (st.Ghost g) m s h = (s, h)
-  executed_typed shorts (st.Assert v k r) m s h = (s, h)
+  executed_typed shorts st.Break m s h = (s, h.3 Broken h.2.0)
+  executed_typed shorts st.Continue m s h = (s, h.3 Continued h.2.0)
+  executed_typed shorts (st.Return e) m s h = answering_typed e m s h.2.0 (λ v r. h.3 (Returned v) r)
+  executed_typed shorts (st.Ghost g) m s h = false_is_not_true h.2.1
+  executed_typed shorts (st.Assert v k r) m s h = false_is_not_true h.2.1
 
   -- ---- a statement at the value of its expression
 
@@ -148,7 +149,7 @@ module _ (q : Core) (f : Function) (fs : List Function) where
 
   -- ---- blocks
 
-  rest_takes : (takes : Completion → Type 0) (noted : Setting) (loop : Bool) (ss : List Stmt) → AllByRecursion (StatementFits q f noted loop) ss → ((l : Completion) → CompletionFits f.result loop l → takes l) → (l : Completion) → CompletionFits f.result loop l → RestTakes q f takes ss l
+  rest_takes : (takes : Completion → Type 0) (noted : Setting) (loop : Bool) (ss : List Stmt) → AllByRecursion (IsCode q f noted loop) ss → ((l : Completion) → CompletionFits f.result loop l → takes l) → (l : Completion) → CompletionFits f.result loop l → RestTakes q f takes ss l
   rest_takes takes noted loop ss h k Next c = (noted, loop, h, k)
   rest_takes takes noted loop ss h k Broken c = k Broken c
   rest_takes takes noted loop ss h k Continued c = k Continued c
@@ -182,19 +183,19 @@ module _ (q : Core) (f : Function) (fs : List Function) where
   turning_typed : (x : Stmt) (m : Configuration) → IsLoop q x → Fits q f fs m → Executes q f x (Ends m) → Here q f fs (turns.turning x (turns.pushed (pending.Pass (pending.Again x)) (ready m)))
   turning_typed (st.While' e b (more_of-Stmt a end_of-Stmt)) m is s h =
       let again = loop_takes (Ends m) (st.While' e b (more_of-Stmt a end_of-Stmt)) tt h in
-      (s, (condition_is_there e h.2.0, λ v x. ((h.0, h.2.1, again), h.3 Next tt)))
+      (s, (condition_is_there e h.2.0.0, λ v x. ((h.0, (h.2.0.1, h.2.1), again), h.3 Next tt)))
   turning_typed (st.Do' b (more_of-Stmt a end_of-Stmt) e) m is s h =
       let loop = st.Do' b (more_of-Stmt a end_of-Stmt) e in
       let again = loop_takes (Ends m) loop tt h in
-      (s, (h.0, true, h.2.1, turn_end_takes (LoopTakes q f (Ends m) loop) loop (condition_is_there e h.2.0, (tt, h), h.3 Next tt) again))
+      (s, (h.0, true, (h.2.0.1, h.2.1), turn_end_takes (LoopTakes q f (Ends m) loop) loop (condition_is_there e h.2.0.0, (tt, h), h.3 Next tt) again))
   turning_typed (st.For' None step b (more_of-Stmt a end_of-Stmt)) m is s h =
       let loop = st.For' None step b (more_of-Stmt a end_of-Stmt) in
       let again = loop_takes (Ends m) loop tt h in
-      (s, (h.0, true, h.2.1, turn_end_takes (LoopTakes q f (Ends m) loop) loop (step_is_there step h.2.0, (tt, h)) again))
+      (s, (h.0, true, (h.2.0.1, h.2.1), turn_end_takes (LoopTakes q f (Ends m) loop) loop (step_is_there step h.2.0.0, (tt, h)) again))
   turning_typed (st.For' (Some e) step b (more_of-Stmt a end_of-Stmt)) m is s h =
       let loop = st.For' (Some e) step b (more_of-Stmt a end_of-Stmt) in
       let again = loop_takes (Ends m) loop tt h in
-      (s, (condition_is_there e (left_of_and (is_condition q (code_setting q f) e) _ h.2.0), λ v x. ((h.0, h.2.1, turn_end_takes (LoopTakes q f (Ends m) loop) loop (step_is_there step (right_of_and (is_condition q (code_setting q f) e) _ h.2.0), (tt, h)) again), h.3 Next tt)))
+      (s, (condition_is_there e (left_of_and (is_condition q (code_setting q f) e) _ h.2.0.0), λ v x. ((h.0, (h.2.0.1, h.2.1), turn_end_takes (LoopTakes q f (Ends m) loop) loop (step_is_there step (right_of_and (is_condition q (code_setting q f) e) _ h.2.0.0), (tt, h)) again), h.3 Next tt)))
   turning_typed st.Empty m is s h = absurd is
   turning_typed (st.Eval _) m is s h = absurd is
   turning_typed (st.Init _ _ _ _) m is s h = absurd is

@@ -30,6 +30,7 @@ use Rattle.step_meaning.specs.Statements.{Completion, Next, Broken, Continued, R
 use Rattle.step_meaning.specs.ExpressionTypes.{type_of, type_of_place, is_null_constant, is_register, parameter_types, called, has_body}
 use Rattle.step_meaning.specs.StatementRules.{StatementFits}
 use Rattle.step_meaning.specs.WellFormed.{IsWellFormedFunction}
+use Rattle.step_meaning.specs.Sources.{is_bare}
 use Rattle.step_meaning.proofs.OperatorRanges.{InRange}
 use Rattle.step_meaning.proofs.TypedMemory.{WhereSome, InCell, Shape, MemoryFits, HeapFalls, is_empty}
 use Rattle.step_meaning.proofs.StepsFit.{IsAddress, InCells, global_cells}
@@ -113,9 +114,13 @@ module _ (q : Core) where
   abbrev pub Evaluates : Function → Expr → (Value → Type 0) → Type 0
   Evaluates f e takes = IsTypable f e × ((v : Value) → MayGive f e v → takes v)
 
+  -- a statement of a function's code, which has no annotation
+  abbrev pub IsCode : Function → Setting → Bool → Stmt → Type 0
+  IsCode f noted loop s = StatementFits q f noted loop s × IsTrue (is_bare s)
+
   -- a statement whose completions are taken
   abbrev pub Executes : Function → Stmt → (Completion → Type 0) → Type 0
-  Executes f s takes = (noted : Setting) × (loop : Bool) × StatementFits q f noted loop s × ((l : Completion) → CompletionFits f.result loop l → takes l)
+  Executes f s takes = (noted : Setting) × (loop : Bool) × IsCode f noted loop s × ((l : Completion) → CompletionFits f.result loop l → takes l)
 
   -- ---- what the parts of a function take, where what is below them takes this
 
@@ -189,7 +194,7 @@ module _ (q : Core) where
   LoopTakes f takes s (Returned v) = takes (Returned v)
 
   abbrev pub RestTakes : Function → (Completion → Type 0) → List Stmt → Completion → Type 0
-  RestTakes f takes ss Next = (noted : Setting) × (loop : Bool) × AllByRecursion (StatementFits q f noted loop) ss × ((l : Completion) → CompletionFits f.result loop l → takes l)
+  RestTakes f takes ss Next = (noted : Setting) × (loop : Bool) × AllByRecursion (IsCode f noted loop) ss × ((l : Completion) → CompletionFits f.result loop l → takes l)
   RestTakes f takes ss l = takes l
 
   abbrev pub PassingTakes : Function → (Completion → Type 0) → pending.Passing → Completion → Type 0
@@ -199,7 +204,7 @@ module _ (q : Core) where
 
   -- a body in a loop, whose completions are taken
   abbrev pub ExecutesInLoop : Function → Stmt → (Completion → Type 0) → Type 0
-  ExecutesInLoop f s takes = (noted : Setting) × StatementFits q f noted true s × ((l : Completion) → CompletionFits f.result true l → takes l)
+  ExecutesInLoop f s takes = (noted : Setting) × IsCode f noted true s × ((l : Completion) → CompletionFits f.result true l → takes l)
 
   abbrev pub ConclusionTakes : Function → (Completion → Type 0) → Stmt → Value → Type 0
   ConclusionTakes f takes (st.Init x o t e) v = ((activation : ℕ) → IsPlace (designated activation x o)) × InCell t v × takes Next
