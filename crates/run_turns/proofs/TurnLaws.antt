@@ -182,26 +182,31 @@ module _ (q : Core) (h : Rattle.step_meaning.specs.WellFormed.IsWellFormed q) (f
   turn_falls (pending.Over x) (pending.Left Continued) i m k e = absurd k
   turn_falls (pending.Over x) (pending.Left (Returned v)) i m k e = absurd k
 
-  -- a loop that is passed is one
+  loops : (s : Stmt) → IsLoop q s → Rattle.run_turns.proofs.Steps.IsLoop s
+  loops (st.While' e b r) k = tt
+  loops (st.Do' b r e) k = tt
+  loops (st.For' test step b r) k = tt
+  loops st.Empty k = absurd k
+  loops (st.Eval _) k = absurd k
+  loops (st.Init _ _ _ _) k = absurd k
+  loops (st.Block' _ _) k = absurd k
+  loops (st.If' _ _ _ _ _) k = absurd k
+  loops st.Break k = absurd k
+  loops st.Continue k = absurd k
+  loops (st.Return _) k = absurd k
+  loops (st.Ghost _) k = absurd k
+  loops (st.Assert _ _ _) k = absurd k
+
+  -- a loop that goes on is one
   is_loop : (takes : Completion → Type 0) (x : pending.Passing) → PassingTakes q f takes x Next → room_law.LoopsAlone 0 x
   is_loop takes (pending.Rest ss) k = tt
   is_loop takes (pending.Again s) k = loops s k.0
-    where
-      loops : (s : Stmt) → IsLoop q s → Rattle.run_turns.proofs.Steps.IsLoop s
-      loops (st.While' e b r) k = tt
-      loops (st.Do' b r e) k = tt
-      loops (st.For' test step b r) k = tt
-      loops st.Empty k = absurd k
-      loops (st.Eval _) k = absurd k
-      loops (st.Init _ _ _ _) k = absurd k
-      loops (st.Block' _ _) k = absurd k
-      loops (st.If' _ _ _ _ _) k = absurd k
-      loops st.Break k = absurd k
-      loops st.Continue k = absurd k
-      loops (st.Return _) k = absurd k
-      loops (st.Ghost _) k = absurd k
-      loops (st.Assert _ _ _) k = absurd k
   is_loop takes (pending.TurnEnd s) k = tt
+
+  is_continued : (takes : Completion → Type 0) (x : pending.Passing) → PassingTakes q f takes x Continued → room_law.LoopsAlone 0 x
+  is_continued takes (pending.Rest ss) k = tt
+  is_continued takes (pending.Again s) k = loops s k.0
+  is_continued takes (pending.TurnEnd s) k = tt
 
   abbrev IsLeft : Completion → Type 0
   IsLeft Broken = Unit {0}
@@ -277,7 +282,7 @@ module _ (q : Core) (h : Rattle.step_meaning.specs.WellFormed.IsWellFormed q) (f
   turn_fits room (pending.Pass x) (pending.Found l) i m k h = absurd k
   turn_fits room (pending.Pass x) (pending.Left Next) i m k h = passed_fits room x Next (telling (pending.Left Next) m) (is_loop (TakesEnd q (f ∷ fs) m.context.arguments m.work) x k) h
   turn_fits room (pending.Pass x) (pending.Left Broken) i m k h = passed_left room x Broken (telling (pending.Left Broken) m) tt h
-  turn_fits room (pending.Pass x) (pending.Left Continued) i m k h = passed_fits room x Continued (telling (pending.Left Continued) m) (is_loop (TakesEnd q (f ∷ fs) m.context.arguments m.work) x k) h
+  turn_fits room (pending.Pass x) (pending.Left Continued) i m k h = passed_fits room x Continued (telling (pending.Left Continued) m) (is_continued (TakesEnd q (f ∷ fs) m.context.arguments m.work) x k) h
   turn_fits room (pending.Pass x) (pending.Left (Returned v)) i m k h = passed_left room x (Returned v) (telling (pending.Left (Returned v)) m) tt h
   turn_fits room pending.Input (pending.Gave v) i m k h = absurd i
   turn_fits room pending.Input (pending.Found l) i m k h = absurd i
