@@ -1,7 +1,8 @@
 -- Calls keep a machine's state typed: arguments, the start and the end of an activation; and so does each turn.
-use Rattle.std.proofs.Common.{◌≡◌, ℕ, zero, suc, ◌<◌, ◌^◌, Bool, true, false, cond, ◌&&◌, not, List, [], ◌∷◌, length, map, take, drop, Option, Some, None, refl, sym, ap, ◌∙◌, subst, arith, eqb-true}
-use Rattle.std.specs.Prelude.{◌==◌, pos, slice_get, is_some, option_map, IsTrue}
+use Rattle.std.proofs.Common.{◌≡◌, ℕ, zero, suc, ◌<◌, ◌^◌, Bool, true, false, cond, ◌&&◌, not, List, [], ◌∷◌, length, map, take, drop, Option, Some, None, refl, sym, ap, ◌∙◌, subst, arith, eqb-true, ◌%◌, mod-lt}
+use Rattle.std.specs.Prelude.{◌==◌, pos, negsuc, slice_get, is_some, option_map, IsTrue}
 use Rattle.std.specs.List.{list_all, AllByRecursion}
+use Rattle.step_meaning.specs.declared.value.IntKind.TheVariants as kind
 use Rattle.step_meaning.specs.declared.value.CType.{CType, end_of-CType, more_of-CType}
 use Rattle.step_meaning.specs.declared.value.CType.TheVariants as type
 use Rattle.step_meaning.specs.declared.value.Value.{Value}
@@ -13,6 +14,8 @@ use Rattle.step_meaning.specs.declared.program.Declared.{Declared}
 use Rattle.step_meaning.specs.declared.program.Layout.{Layout}
 use Rattle.step_meaning.specs.declared.program.Core.{Core}
 use Rattle.step_meaning.specs.declared.program.Function.{Function}
+use Rattle.step_meaning.specs.Numbers.{low_bits}
+use Rattle.step_meaning.specs.Names.{integer}
 use Rattle.step_meaning.specs.Types.{same_type, object_cells}
 use Rattle.step_meaning.specs.Library.{int}
 use Rattle.step_meaning.specs.Memory.{Memory, Frame, Slot, empty_block, filled}
@@ -26,7 +29,7 @@ use Rattle.step_meaning.specs.StatementRules.{StatementFits, BodyFits}
 use Rattle.step_meaning.specs.WellFormed.{IsWellFormed, IsWellFormedFunction, OfBody, is_main}
 use Rattle.step_meaning.specs.Sources.{is_bare}
 use Rattle.step_meaning.specs.Traced.{SlotTyped}
-use Rattle.step_meaning.proofs.Ranges.{false_is_not_true, left_of_and, right_of_and}
+use Rattle.step_meaning.proofs.Ranges.{natural_in_range, low_bits_below, false_is_not_true, left_of_and, right_of_and}
 use Rattle.step_meaning.proofs.TypedMemory.{Each, WhereSome, drop_map, InCell, BlockFits, FrameFits, Shape, shape_of, MemoryFits, has_same_type, same_type_turned, is_empty}
 use Rattle.step_meaning.proofs.StepsFit.{InCells, ReturnFits, global_cells}
 use Rattle.step_meaning.proofs.Kept.{RegistersFit}
@@ -261,10 +264,9 @@ module _ (q : Core) where
       shorts : IsWellFormedFunction q f → ShortLocals q f fs
       shorts s = short_locals q.layouts sizes f.locals s.locals
 
-      -- each part but input, output, the start of an activation and a fault that is due: these are left to the machine
+      -- each part but input, the start of an activation and a fault that is due: these are left to the machine
       abbrev pub IsInner : pending.Pending → Type 0
       IsInner pending.Input = ⊥
-      IsInner pending.Output = ⊥
       IsInner (pending.Enter g n) = ⊥
       IsInner (pending.Halt x) = ⊥
       IsInner p = Unit {0}
@@ -336,12 +338,12 @@ module _ (q : Core) where
       turn_typed pending.Input (pending.Left Broken) i m s k = absurd i
       turn_typed pending.Input (pending.Left Continued) i m s k = absurd i
       turn_typed pending.Input (pending.Left (Returned v)) i m s k = absurd i
-      turn_typed pending.Output (pending.Gave v) i m s k = absurd i
-      turn_typed pending.Output (pending.Found l) i m s k = absurd i
-      turn_typed pending.Output (pending.Left Next) i m s k = absurd i
-      turn_typed pending.Output (pending.Left Broken) i m s k = absurd i
-      turn_typed pending.Output (pending.Left Continued) i m s k = absurd i
-      turn_typed pending.Output (pending.Left (Returned v)) i m s k = absurd i
+      turn_typed pending.Output (pending.Gave v) i m s k = (f ∷ fs, (s, k (pos (turns.byte_of v)) (natural_in_range kind.Int (turns.byte_of v) (let l : low_bits 8 (integer v) < 256 = low_bits_below 8 (integer v) (omega arith) in omega arith))))
+      turn_typed pending.Output (pending.Found l) i m s k = absurd k
+      turn_typed pending.Output (pending.Left Next) i m s k = absurd k
+      turn_typed pending.Output (pending.Left Broken) i m s k = absurd k
+      turn_typed pending.Output (pending.Left Continued) i m s k = absurd k
+      turn_typed pending.Output (pending.Left (Returned v)) i m s k = absurd k
       turn_typed (pending.Arguments g es n) (pending.Gave v) i m s k = absurd k
       turn_typed (pending.Arguments g es n) (pending.Found l) i m s k = absurd k
       turn_typed (pending.Arguments g es n) (pending.Left Next) i m s k = (f ∷ fs, arguing_typed f fs g es n m s k)
@@ -378,3 +380,8 @@ module _ (q : Core) where
       turn_typed (pending.Over x) (pending.Left Broken) i m s k = absurd k
       turn_typed (pending.Over x) (pending.Left Continued) i m s k = absurd k
       turn_typed (pending.Over x) (pending.Left (Returned v)) i m s k = absurd k
+
+      -- `getchar`: the next byte, or -1
+      pub read_typed : (input : List ℕ) (m : Configuration) → Fits q f fs m → TakesEnd q (f ∷ fs) m.context.arguments (pending.Input ∷ m.work) Next → Here q f fs (turns.giving (turns.byte_read input) m)
+      read_typed [] m s k = (s, k (negsuc 0) refl)
+      read_typed (b ∷ bs) m s k = (s, k (pos (b % 256)) (natural_in_range kind.Int (b % 256) (let l : b % 256 < 256 = mod-lt b (omega arith) in omega arith)))

@@ -9,3 +9,5 @@ pub mod ValuesTyped
 pub mod StatementsTyped
 pub mod CallsTyped
 pub mod TurnLaws
+pub mod Devices
+pub mod StartTyped

@@ -19,19 +19,19 @@ use Rattle.step_meaning.specs.Statements as sm
 use Rattle.step_meaning.specs.Statements.{Completion, Next, Broken, Continued, Returned}
 use Rattle.step_meaning.specs.Calls as ca
 use Rattle.step_meaning.specs.First.{first_items}
-use Rattle.step_meaning.specs.Runs.{run, start_memory, start_ghosts}
+use Rattle.step_meaning.specs.Runs.{run}
 use Rattle.step_meaning.proofs.Bounds.{Counts, Same, SameCall, same_bind, same_pure, same_eval, same_exec, same_at_end, same_when, same_step_of, same_turns, same_calls, same_after_turn}
 use Rattle.step_meaning.proofs.FirstSteps.{cut, Alike, alike_counts, items_of_cut}
 use Rattle.run_turns.specs.Pending as pending
 use Rattle.run_turns.specs.Turns as turns
-use Rattle.run_turns.specs.Turns.{Configuration, Turn, state_of, rest_of, moved, makes, ready, turn_at}
+use Rattle.run_turns.specs.Turns.{Configuration, Turn, state_of, rest_of, moved, makes, ready, turn_at, start}
 use Rattle.run_turns.specs.Rest.{rest}
 use Rattle.run_turns.proofs.Follows.{stepped, evaluates, locates, executes, operates, accesses, selects, designates, concludes, passes, argues, gives_back, IsSettled}
 use Rattle.run_turns.proofs.PendingBounds.{Onward, Up, part_alike, resume_alike}
 
 -- ---- larger bounds
 
-abbrev calls_at : Core → ℕ → ℕ → ℕ → List Value → RestingCall
+abbrev pub calls_at : Core → ℕ → ℕ → ℕ → List Value → RestingCall
 calls_at q k d = ca.calls resting q k d
 
 alike_calls : (q : Core) (n k d k' d' : ℕ) → n ≤ k → n ≤ d → n ≤ k' → n ≤ d' → (g : ℕ) (vs : List Value) → SameCall Alike alike_counts n (calls_at q k d g vs) (calls_at q k' d' g vs)
@@ -40,7 +40,7 @@ alike_calls q n k d k' d' a b a' b' g vs = same_calls Alike alike_counts q k k' 
 from_alike : (n : ℕ) (t u : Trace) → Alike (suc n) t u → first_items n t ≡ first_items n u
 from_alike n t u h = sym (items_of_cut n t) ∙ ap (first_items n) h ∙ items_of_cut n u
 
-one_less : (q : Core) (n : ℕ) (m : Configuration) (input : List ℕ) → first_items n (rest_of q (calls_at q (suc (suc n)) (suc (suc n))) (suc (suc n)) m input) ≡ first_items n (rest_of q (calls_at q (suc n) (suc n)) (suc n) m input)
+pub one_less : (q : Core) (n : ℕ) (m : Configuration) (input : List ℕ) → first_items n (rest_of q (calls_at q (suc (suc n)) (suc (suc n))) (suc (suc n)) m input) ≡ first_items n (rest_of q (calls_at q (suc n) (suc n)) (suc n) m input)
 one_less q n m input =
     from_alike n _ _ (resume_alike Alike alike_counts q (suc n) (calls_at q (suc (suc n)) (suc (suc n))) (calls_at q (suc n) (suc n)) (alike_calls q (suc n) (suc (suc n)) (suc (suc n)) (suc n) (suc n) (omega arith) (omega arith) (omega arith) (omega arith)) (suc (suc n)) (suc n) (omega arith) (omega arith) m.work (suc n) (omega arith) m.told m.context (state_of m input))
 
@@ -59,18 +59,6 @@ turn_makes q old new a h input n =
     ap (first_items (suc n)) (h (calls_at q (suc (suc n)) (suc (suc n))) (suc (suc n)) input) ∙ ap (Then (step_by old.context.here a old.memory)) (one_less q n new input)
 
 -- ---- a machine before the first step
-
-abbrev pub start : Core → Configuration
-start q =
-    record {
-      work = pending.Enter q.start 0 ∷ [];
-      told = pending.Left Next;
-      context = record { here = record { function = 0; activation = 0 }; registers = []; callers = []; arguments = [] };
-      memory = start_memory q;
-      ghosts = start_ghosts q;
-      made = 0;
-      allocated = 0;
-    }
 
 pub start_rest : (q : Core) (input : List ℕ) (n : ℕ) → rest q (start q) input n ≡ first_items n (run q input (suc n))
 unfolding rest
@@ -214,10 +202,9 @@ enter_makes q g i f body found has none same m input n =
 
 -- ---- the turn at a pending part
 
--- no input, output, start of an activation or of a loop's turn
+-- no input, start of an activation or of a loop's turn
 abbrev pub IsPlain : pending.Pending → pending.Told → Type 0
 IsPlain pending.Input (pending.Left Next) = ⊥
-IsPlain pending.Output (pending.Gave v) = ⊥
 IsPlain (pending.Enter f n) (pending.Left Next) = ⊥
 IsPlain (pending.Pass x) (pending.Left l) = IsSettled x l
 IsPlain (pending.Over f) t = ⊥
@@ -267,7 +254,7 @@ plain_turn q pending.Input (pending.Left Continued) h m call k input = refl
 plain_turn q pending.Input (pending.Left (Returned v)) h m call k input = refl
 plain_turn q pending.Input (pending.Gave v) h m call k input = refl
 plain_turn q pending.Input (pending.Found l) h m call k input = refl
-plain_turn q pending.Output (pending.Gave v) h m call k input = absurd h
+plain_turn q pending.Output (pending.Gave v) h m call k input = refl
 plain_turn q pending.Output (pending.Found l) h m call k input = refl
 plain_turn q pending.Output (pending.Left l) h m call k input = refl
 plain_turn q (pending.Arguments f es n) (pending.Left Next) h m call k input = argues q call k f es n (turns.telling (pending.Left Next) m) input

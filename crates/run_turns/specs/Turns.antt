@@ -1,5 +1,5 @@
 -- One turn of a machine: what it makes of the pending part on top, as a function of the machine's state.
-use Rattle.std.specs.Prelude.{◌≡◌, ℕ, suc, ◌+◌, Bool, true, false, not, cond, ◌==◌, ℤ, pos, negsuc, ◌*ℤ◌, neg_ℤ, List, length, [], ◌∷◌, ◌++◌, take, drop, map, Option, Some, None, option_map, Result, Ok, Err}
+use Rattle.std.specs.Prelude.{◌≡◌, ℕ, suc, ◌+◌, ◌%◌, Bool, true, false, not, cond, ◌==◌, ℤ, pos, negsuc, ◌*ℤ◌, neg_ℤ, List, length, [], ◌∷◌, ◌++◌, take, drop, map, Option, Some, None, option_map, Result, Ok, Err}
 use Rattle.step_meaning.specs.declared.value.IntKind.{IntKind}
 use Rattle.step_meaning.specs.declared.value.CType.{CType}
 use Rattle.step_meaning.specs.declared.value.CType.TheVariants as type
@@ -32,6 +32,7 @@ use Rattle.step_meaning.specs.Flow.{step_by, RestingCall}
 use Rattle.step_meaning.specs.Accesses.{brought_to, converted_to, answer}
 use Rattle.step_meaning.specs.Allocation.{block_for, block_pointer}
 use Rattle.step_meaning.specs.Statements.{Completion, Next, Broken, Continued, Returned}
+use Rattle.step_meaning.specs.Runs.{start_memory, start_ghosts}
 use Rattle.step_meaning.specs.Calls.{value_or_zero, without_frame, with_frame, first_frame, first_ghosts}
 use Rattle.run_turns.specs.Pending
 
@@ -52,6 +53,19 @@ state_of m input = record { memory = m.memory; ghosts = m.ghosts; input = input;
 -- the rest of the run, with calls and loops of this meaning
 abbrev pub rest_of : Core → (ℕ → List Value → RestingCall) → ℕ → Configuration → List ℕ → Trace
 rest_of q call k m input = Pending.resume q call k m.work m.told m.context (state_of m input)
+
+-- a machine before the first step
+abbrev pub start : Core → Configuration
+start q =
+    record {
+      work = Pending.Enter q.start 0 ∷ [];
+      told = Pending.Left Next;
+      context = record { here = record { function = 0; activation = 0 }; registers = []; callers = []; arguments = [] };
+      memory = start_memory q;
+      ghosts = start_ghosts q;
+      made = 0;
+      allocated = 0;
+    }
 
 -- ---- what a turn makes: a step or none, and the state after it
 
@@ -321,6 +335,24 @@ passed (Pending.Rest ss) l m = moved (on_next (next_of ss (ready m)) l m)
 passed (Pending.Again s) l m = looped s l m
 passed (Pending.TurnEnd s) l m = moved (at_turn_end (ending s m) l m)
 
+-- ---- `getchar` and `putchar`
+
+-- the value of the next byte of the input, or -1 at its end
+abbrev pub byte_read : List ℕ → Value
+byte_read [] = value.Int (negsuc 0)
+byte_read (b ∷ bs) = value.Int (pos (b % 256))
+
+abbrev pub after_byte : List ℕ → List ℕ
+after_byte [] = []
+after_byte (b ∷ bs) = bs
+
+-- the byte that is written
+abbrev pub byte_of : Value → ℕ
+byte_of v = low_bits 8 (integer v)
+
+abbrev pub put : Value → Configuration → Turn
+put v m = makes (act.Output (byte_of v)) (giving (value.Int (pos (byte_of v))) m)
+
 -- ---- calls
 
 abbrev pub arguing : ℕ → List Expr → ℕ → Configuration → Turn
@@ -369,7 +401,7 @@ entered q g f body n m =
       allocated = m.allocated;
     }
 
--- ---- the turn at a pending part that was taken off the stack, but for input, output and the start of an activation. A part passes on what it doesn't wait for
+-- ---- the turn at a pending part that was taken off the stack, but for input and the start of an activation. A part passes on what it doesn't wait for
 
 abbrev pub turn_at : Core → Pending.Pending → Pending.Told → Configuration → Turn
 turn_at q (Pending.Evaluate e) (Pending.Left Next) m = moved (evaluated e (ready m))
@@ -385,5 +417,6 @@ turn_at q (Pending.Arguments f es n) (Pending.Left Next) m = arguing f es n (rea
 turn_at q (Pending.Argument f es n) (Pending.Gave v) m = moved (argued f es n v m)
 turn_at q (Pending.Leave g t) (Pending.Left l) m = given_back g (g == q.start) t l m
 turn_at q Pending.Ignore (Pending.Gave v) m = moved (ready m)
+turn_at q Pending.Output (Pending.Gave v) m = put v m
 turn_at q (Pending.Halt f) t m = makes (act.Halt f) (pushed (Pending.Over f) m)
 turn_at q p t m = moved m
