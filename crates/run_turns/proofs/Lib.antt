@@ -11,3 +11,4 @@ pub mod CallsTyped
 pub mod TurnLaws
 pub mod Devices
 pub mod StartTyped
+pub mod ValuesHeld

@@ -5,3 +5,4 @@ pub mod Rest
 pub mod Weight
 pub mod Room
 pub mod Typed
+pub mod Values
