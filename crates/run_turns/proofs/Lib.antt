@@ -12,3 +12,4 @@ pub mod TurnLaws
 pub mod Devices
 pub mod StartTyped
 pub mod ValuesHeld
+pub mod TurnValues

@@ -37,7 +37,7 @@ pub record IgnoresOffsets (P : Value → Type 0) : Type 0 where
 abbrev Each : {A : Type 0} → (A → Type 0) → List A → Type 0
 Each P xs = AllByRecursion P xs
 
-abbrev WhereSome : {A : Type 0} → (A → Type 0) → Option A → Type 0
+abbrev pub WhereSome : {A : Type 0} → (A → Type 0) → Option A → Type 0
 WhereSome P None = Unit {0}
 WhereSome P (Some a) = P a
 

@@ -69,13 +69,15 @@ module _ (P : Value → Type 0) where
   abbrev pub RegistersHave : Registers → Type 0
   RegistersHave r = BlockHas r
 
-  pub record StateHas (m : Configuration) : Type 0 where
-    pub told : ToldHas m.told
-    pub work : AllByRecursion PartHas m.work
-    pub arguments : AllByRecursion P m.context.arguments
-    pub registers : RegistersHave m.context.registers
-    pub callers : AllByRecursion (λ c. RegistersHave c.registers) m.context.callers
-    pub memory : MemoryHas m.memory
+  -- what stays beside the stack
+  pub record KeptHas (arguments : List Value) (registers : Registers) (callers : List pending.Caller) (memory : Memory) : Type 0 where
+    pub arguments_have : AllByRecursion P arguments
+    pub registers_have : RegistersHave registers
+    pub callers_have : AllByRecursion (λ c. RegistersHave c.registers) callers
+    pub memory_has : MemoryHas memory
+
+  abbrev pub StateHas : Configuration → Type 0
+  StateHas m = ToldHas m.told × AllByRecursion PartHas m.work × KeptHas m.context.arguments m.context.registers m.context.callers m.memory
 
 -- ---- names that came to be
 
