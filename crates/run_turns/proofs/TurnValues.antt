@@ -1,5 +1,5 @@
 -- A property of values stays with a machine's values from turn to turn.
-use Rattle.std.proofs.Common.{◌≡◌, ℕ, zero, suc, Bool, true, false, cond, List, [], ◌∷◌, take, drop, Option, Some, None, Result, Ok, Err, refl}
+use Rattle.std.proofs.Common.{◌≡◌, ℕ, zero, suc, Bool, true, false, cond, List, [], ◌∷◌, take, drop, Option, Some, None, Result, Ok, Err, refl, sym, subst}
 use Rattle.std.specs.Prelude.{ℤ, pos, ◌*◌, ◌==◌, IsTrue, is_some}
 use Rattle.std.specs.List.{AllByRecursion}
 use Rattle.step_meaning.specs.declared.value.CType.{CType}
@@ -38,7 +38,8 @@ use Rattle.step_meaning.specs.Calls.{value_or_zero}
 use Rattle.run_turns.specs.Pending as pending
 use Rattle.run_turns.specs.Turns as turns
 use Rattle.run_turns.specs.Turns.{Configuration, ready, telling, turn_at}
-use Rattle.run_turns.specs.Typed.{IsTypablePlace}
+use Rattle.run_turns.specs.Typed.{IsTypablePlace, Takes}
+use Rattle.run_turns.proofs.CallsTyped.{IsInner}
 use Rattle.run_turns.specs.Values.{LvalueHas, OptionHas, CompletionHas, ToldHas, OperandHas, DesignationHas, PartHas, CellHas, BlockHas, BlocksHave, MemoryHas, RegistersHave, KeptHas, StateHas}
 use Rattle.run_turns.proofs.ValuesHeld.{IgnoresOffsets, OkHas, WhereSome, truth_has, moved_has, stored_has, reached_has, register_has, set_register_has, unset_has, freed_has, tail_has}
 
@@ -345,3 +346,119 @@ module _ (P : Value → Type 0) (closed : IgnoresOffsets P) where
   given_back_has g b t Next m u h w k = fallen_off_has g b t m w k
   given_back_has g b t Broken m u h w k = (u, (tt, w), k)
   given_back_has g b t Continued m u h w k = (u, (tt, w), k)
+
+  -- ---- the turn, for a typed machine
+
+  module _ (q : Core) (h : Rattle.step_meaning.specs.WellFormed.IsWellFormed q) (f : Function) (fs : List Function) (activation : ℕ) (own : OwnHave q f activation) where
+    abbrev pub InitHave : Stmt → Type 0
+    InitHave x = (y : Variable) (o : ℕ) (t : CType) (e : Expr) → x ≡ st.Init y o t e → LvalueHas P (designated activation y o)
+
+    pub turn_values : (p : pending.Pending) (t : pending.Told) → IsInner q h f fs p → (m : Configuration) → m.context.here.activation ≡ activation → P (block_pointer m.allocated) → ((x : Stmt) → p ≡ pending.Conclude x → InitHave x) → Takes q (f ∷ fs) m.context.arguments (p ∷ m.work) t → ToldHas P t → PartHas P p → Works m → Kept m → StateHas P (turn_at q p t (telling t m)).after
+    turn_values (pending.Evaluate x) (pending.Gave v) i m at fresh init c u a w k = absurd c
+    turn_values (pending.Evaluate x) (pending.Found l) i m at fresh init c u a w k = absurd c
+    turn_values (pending.Evaluate x) (pending.Left Next) i m at fresh init c u a w k = evaluated_has x m w k
+    turn_values (pending.Evaluate x) (pending.Left Broken) i m at fresh init c u a w k = absurd c
+    turn_values (pending.Evaluate x) (pending.Left Continued) i m at fresh init c u a w k = absurd c
+    turn_values (pending.Evaluate x) (pending.Left (Returned v)) i m at fresh init c u a w k = absurd c
+    turn_values (pending.Locate p) (pending.Gave v) i m at fresh init c u a w k = absurd c
+    turn_values (pending.Locate p) (pending.Found l) i m at fresh init c u a w k = absurd c
+    turn_values (pending.Locate p) (pending.Left Next) i m at fresh init c u a w k = located_has q f p m (subst (OwnHave q f) (sym at) own) c.0 w k
+    turn_values (pending.Locate p) (pending.Left Broken) i m at fresh init c u a w k = absurd c
+    turn_values (pending.Locate p) (pending.Left Continued) i m at fresh init c u a w k = absurd c
+    turn_values (pending.Locate p) (pending.Left (Returned v)) i m at fresh init c u a w k = absurd c
+    turn_values (pending.Execute x) (pending.Gave v) i m at fresh init c u a w k = absurd c
+    turn_values (pending.Execute x) (pending.Found l) i m at fresh init c u a w k = absurd c
+    turn_values (pending.Execute x) (pending.Left Next) i m at fresh init c u a w k = executed_has x m w k
+    turn_values (pending.Execute x) (pending.Left Broken) i m at fresh init c u a w k = absurd c
+    turn_values (pending.Execute x) (pending.Left Continued) i m at fresh init c u a w k = absurd c
+    turn_values (pending.Execute x) (pending.Left (Returned v)) i m at fresh init c u a w k = absurd c
+    turn_values (pending.Operate o) (pending.Gave v) i m at fresh init c u a w k = operated_has q o v (telling (pending.Gave v) m) fresh u a w k
+    turn_values (pending.Operate o) (pending.Found l) i m at fresh init c u a w k = absurd c
+    turn_values (pending.Operate o) (pending.Left Next) i m at fresh init c u a w k = absurd c
+    turn_values (pending.Operate o) (pending.Left Broken) i m at fresh init c u a w k = absurd c
+    turn_values (pending.Operate o) (pending.Left Continued) i m at fresh init c u a w k = absurd c
+    turn_values (pending.Operate o) (pending.Left (Returned v)) i m at fresh init c u a w k = absurd c
+    turn_values (pending.Accessed a') (pending.Gave v) i m at fresh init c u a w k = absurd c
+    turn_values (pending.Accessed a') (pending.Found l) i m at fresh init c u a w k = accessed_has a' l (telling (pending.Found l) m) u u w k
+    turn_values (pending.Accessed a') (pending.Left Next) i m at fresh init c u a w k = absurd c
+    turn_values (pending.Accessed a') (pending.Left Broken) i m at fresh init c u a w k = absurd c
+    turn_values (pending.Accessed a') (pending.Left Continued) i m at fresh init c u a w k = absurd c
+    turn_values (pending.Accessed a') (pending.Left (Returned v)) i m at fresh init c u a w k = absurd c
+    turn_values (pending.Select x) (pending.Gave v) i m at fresh init c u a w k = absurd c
+    turn_values (pending.Select x) (pending.Found l) i m at fresh init c u a w k = selected_has x l (ready m) tt u w k
+    turn_values (pending.Select x) (pending.Left Next) i m at fresh init c u a w k = absurd c
+    turn_values (pending.Select x) (pending.Left Broken) i m at fresh init c u a w k = absurd c
+    turn_values (pending.Select x) (pending.Left Continued) i m at fresh init c u a w k = absurd c
+    turn_values (pending.Select x) (pending.Left (Returned v)) i m at fresh init c u a w k = absurd c
+    turn_values (pending.Designate x) (pending.Gave v) i m at fresh init c u a w k = designating_has x v (ready m) tt u a w k
+    turn_values (pending.Designate x) (pending.Found l) i m at fresh init c u a w k = absurd c
+    turn_values (pending.Designate x) (pending.Left Next) i m at fresh init c u a w k = absurd c
+    turn_values (pending.Designate x) (pending.Left Broken) i m at fresh init c u a w k = absurd c
+    turn_values (pending.Designate x) (pending.Left Continued) i m at fresh init c u a w k = absurd c
+    turn_values (pending.Designate x) (pending.Left (Returned v)) i m at fresh init c u a w k = absurd c
+    turn_values (pending.Conclude x) (pending.Gave v) i m at fresh init c u a w k = concluded_has q f x v (telling (pending.Gave v) m) (subst (λ n. (y : Variable) (o : ℕ) (t : CType) (e : Expr) → x ≡ st.Init y o t e → LvalueHas P (designated n y o)) (sym at) (init x refl)) u w k
+    turn_values (pending.Conclude x) (pending.Found l) i m at fresh init c u a w k = absurd c
+    turn_values (pending.Conclude x) (pending.Left Next) i m at fresh init c u a w k = absurd c
+    turn_values (pending.Conclude x) (pending.Left Broken) i m at fresh init c u a w k = absurd c
+    turn_values (pending.Conclude x) (pending.Left Continued) i m at fresh init c u a w k = absurd c
+    turn_values (pending.Conclude x) (pending.Left (Returned v)) i m at fresh init c u a w k = absurd c
+    turn_values pending.Ignore (pending.Gave v) i m at fresh init c u a w k = (tt, w, k)
+    turn_values pending.Ignore (pending.Found l) i m at fresh init c u a w k = absurd c
+    turn_values pending.Ignore (pending.Left Next) i m at fresh init c u a w k = absurd c
+    turn_values pending.Ignore (pending.Left Broken) i m at fresh init c u a w k = absurd c
+    turn_values pending.Ignore (pending.Left Continued) i m at fresh init c u a w k = absurd c
+    turn_values pending.Ignore (pending.Left (Returned v)) i m at fresh init c u a w k = absurd c
+    turn_values (pending.Pass x) (pending.Gave v) i m at fresh init c u a w k = absurd c
+    turn_values (pending.Pass x) (pending.Found l) i m at fresh init c u a w k = absurd c
+    turn_values (pending.Pass x) (pending.Left Next) i m at fresh init c u a w k = passed_has x Next (telling (pending.Left Next) m) u w k
+    turn_values (pending.Pass x) (pending.Left Broken) i m at fresh init c u a w k = passed_has x Broken (telling (pending.Left Broken) m) u w k
+    turn_values (pending.Pass x) (pending.Left Continued) i m at fresh init c u a w k = passed_has x Continued (telling (pending.Left Continued) m) u w k
+    turn_values (pending.Pass x) (pending.Left (Returned v)) i m at fresh init c u a w k = passed_has x (Returned v) (telling (pending.Left (Returned v)) m) u w k
+    turn_values pending.Input (pending.Gave v) i m at fresh init c u a w k = absurd i
+    turn_values pending.Input (pending.Found l) i m at fresh init c u a w k = absurd i
+    turn_values pending.Input (pending.Left Next) i m at fresh init c u a w k = absurd i
+    turn_values pending.Input (pending.Left Broken) i m at fresh init c u a w k = absurd i
+    turn_values pending.Input (pending.Left Continued) i m at fresh init c u a w k = absurd i
+    turn_values pending.Input (pending.Left (Returned v)) i m at fresh init c u a w k = absurd i
+    turn_values pending.Output (pending.Gave v) i m at fresh init c u a w k = (closed.integers _, w, k)
+    turn_values pending.Output (pending.Found l) i m at fresh init c u a w k = absurd c
+    turn_values pending.Output (pending.Left Next) i m at fresh init c u a w k = absurd c
+    turn_values pending.Output (pending.Left Broken) i m at fresh init c u a w k = absurd c
+    turn_values pending.Output (pending.Left Continued) i m at fresh init c u a w k = absurd c
+    turn_values pending.Output (pending.Left (Returned v)) i m at fresh init c u a w k = absurd c
+    turn_values (pending.Arguments g es n) (pending.Gave v) i m at fresh init c u a w k = absurd c
+    turn_values (pending.Arguments g es n) (pending.Found l) i m at fresh init c u a w k = absurd c
+    turn_values (pending.Arguments g es n) (pending.Left Next) i m at fresh init c u a w k = arguing_has g es n m w k
+    turn_values (pending.Arguments g es n) (pending.Left Broken) i m at fresh init c u a w k = absurd c
+    turn_values (pending.Arguments g es n) (pending.Left Continued) i m at fresh init c u a w k = absurd c
+    turn_values (pending.Arguments g es n) (pending.Left (Returned v)) i m at fresh init c u a w k = absurd c
+    turn_values (pending.Argument g es n) (pending.Gave v) i m at fresh init c u a w k = argued_has g es n v (telling (pending.Gave v) m) u w k
+    turn_values (pending.Argument g es n) (pending.Found l) i m at fresh init c u a w k = absurd c
+    turn_values (pending.Argument g es n) (pending.Left Next) i m at fresh init c u a w k = absurd c
+    turn_values (pending.Argument g es n) (pending.Left Broken) i m at fresh init c u a w k = absurd c
+    turn_values (pending.Argument g es n) (pending.Left Continued) i m at fresh init c u a w k = absurd c
+    turn_values (pending.Argument g es n) (pending.Left (Returned v)) i m at fresh init c u a w k = absurd c
+    turn_values (pending.Enter g n) (pending.Gave v) i m at fresh init c u a w k = absurd i
+    turn_values (pending.Enter g n) (pending.Found l) i m at fresh init c u a w k = absurd i
+    turn_values (pending.Enter g n) (pending.Left Next) i m at fresh init c u a w k = absurd i
+    turn_values (pending.Enter g n) (pending.Left Broken) i m at fresh init c u a w k = absurd i
+    turn_values (pending.Enter g n) (pending.Left Continued) i m at fresh init c u a w k = absurd i
+    turn_values (pending.Enter g n) (pending.Left (Returned v)) i m at fresh init c u a w k = absurd i
+    turn_values (pending.Leave g t) (pending.Gave v) i m at fresh init c u a w k = absurd c
+    turn_values (pending.Leave g t) (pending.Found l) i m at fresh init c u a w k = absurd c
+    turn_values (pending.Leave g t) (pending.Left Next) i m at fresh init c u a w k = given_back_has g (g == q.start) t Next (telling (pending.Left Next) m) u u w k
+    turn_values (pending.Leave g t) (pending.Left Broken) i m at fresh init c u a w k = given_back_has g (g == q.start) t Broken (telling (pending.Left Broken) m) u u w k
+    turn_values (pending.Leave g t) (pending.Left Continued) i m at fresh init c u a w k = given_back_has g (g == q.start) t Continued (telling (pending.Left Continued) m) u u w k
+    turn_values (pending.Leave g t) (pending.Left (Returned v)) i m at fresh init c u a w k = given_back_has g (g == q.start) t (Returned v) (telling (pending.Left (Returned v)) m) u u w k
+    turn_values (pending.Halt x) (pending.Gave v) i m at fresh init c u a w k = absurd i
+    turn_values (pending.Halt x) (pending.Found l) i m at fresh init c u a w k = absurd i
+    turn_values (pending.Halt x) (pending.Left Next) i m at fresh init c u a w k = absurd i
+    turn_values (pending.Halt x) (pending.Left Broken) i m at fresh init c u a w k = absurd i
+    turn_values (pending.Halt x) (pending.Left Continued) i m at fresh init c u a w k = absurd i
+    turn_values (pending.Halt x) (pending.Left (Returned v)) i m at fresh init c u a w k = absurd i
+    turn_values (pending.Over x) (pending.Gave v) i m at fresh init c u a w k = absurd c
+    turn_values (pending.Over x) (pending.Found l) i m at fresh init c u a w k = absurd c
+    turn_values (pending.Over x) (pending.Left Next) i m at fresh init c u a w k = absurd c
+    turn_values (pending.Over x) (pending.Left Broken) i m at fresh init c u a w k = absurd c
+    turn_values (pending.Over x) (pending.Left Continued) i m at fresh init c u a w k = absurd c
+    turn_values (pending.Over x) (pending.Left (Returned v)) i m at fresh init c u a w k = absurd c
