@@ -1,0 +1,15 @@
+pub mod Follows
+pub mod PendingBounds
+pub mod Steps
+pub mod Falls
+pub mod RoomLaw
+pub mod TypeTests
+pub mod ExpressionsTyped
+pub mod ValuesTyped
+pub mod StatementsTyped
+pub mod CallsTyped
+pub mod TurnLaws
+pub mod Devices
+pub mod StartTyped
+pub mod ValuesHeld
+pub mod TurnValues
