@@ -1,7 +1,4 @@
 //! The nodes of expressions: each name, literal, operator, call, index, member and cast is one.
-//!
-//! Each call takes the nodes away from a room, and answers what is left of it: 0 where they don't fit or fill it. So an
-//! expression has at most `most` nodes exactly where something is left of `most + 1`.
 
 ghost use Rattle.std.specs.Prelude.{◌≡◌, ◌-◌, map};
 ghost use Rattle.typing_rules.specs.Nodes.{nodes, all_nodes};
