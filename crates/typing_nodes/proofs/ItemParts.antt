@@ -1,11 +1,13 @@
 -- The weighted nodes of items.
-use Rattle.std.proofs.Common.{◌≡◌, ℕ, ◌+◌, List, [], ◌∷◌, map, sum_by, refl, ap, ◌∙◌}
+use Rattle.std.proofs.lemmas.List.{drop_all}
+use Rattle.std.proofs.Common.{◌≡◌, ℕ, ◌+◌, ◌≤◌, List, [], ◌∷◌, drop, length, map, sum_by, refl, ap, ◌∙◌}
 use Rattle.std.proofs.lemmas.List.Sums.{sum_by-cons}
 use Rattle.c_words.specs.declared.chain.Chain.{Chain}
 use Rattle.c_words.specs.declared.chain.Link.{Link}
 use Rattle.c_grammar.specs.declared.declaration.Declarator.{Declarator}
 use Rattle.c_grammar.specs.declared.program.Member.{Member}
 use Rattle.c_grammar.specs.declared.program.Item.{Item}
+use Rattle.c_grammar.specs.declared.program.ProgramTree.{ProgramTree}
 use Rattle.typing_rules.specs.Syntax as syntax
 use Rattle.typing_rules.specs.Weights.{modifiers_weight, item_weight, weight}
 use Rattle.typing_rules.specs.TreesOfDeclarations as trees
@@ -36,3 +38,15 @@ pub items_first : (xs : List Item) → weight (map trees.item xs) ≡ item_nodes
 unfolding item_nodes
 items_first [] = refl
 items_first (x ∷ xs) = sum_by-cons item_weight (trees.item x) (map trees.item xs) ∙ ap (λ n. item_weight (trees.item x) + n) (items_first xs)
+
+pub no_member : (ms : List Member) (i : ℕ) → length ms ≤ i → member_nodes (drop i ms) ≡ 0
+unfolding member_nodes
+no_member ms i past = ap member_nodes (drop_all i ms past)
+
+pub no_item : (xs : List Item) (i : ℕ) → length xs ≤ i → item_nodes (drop i xs) ≡ 0
+unfolding item_nodes
+no_item xs i past = ap item_nodes (drop_all i xs past)
+
+pub program_items : (t : ProgramTree) → weight (trees.program t) ≡ item_nodes t.items
+unfolding trees.program
+program_items t = items_first t.items

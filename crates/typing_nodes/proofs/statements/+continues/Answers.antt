@@ -8,7 +8,7 @@ use Rattle.typing_nodes.proofs.StatementParts.{next_part, taken_apart}
 use Rattle.typing_nodes.proofs.statements.+continues.Goals as goal
 
 pub in_block-loop-part-preserved : goal.in_block-loop-part-preserved
-in_block-loop-part-preserved c =
+in_block-loop-part-preserved t c =
     let n = nodes (expressions.assign c.args.value.now) in
     let ps = c.as_slice-part-items.result.now in
     let i = c.loop-part.part-index in
