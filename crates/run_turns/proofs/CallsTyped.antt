@@ -7,7 +7,7 @@ use Rattle.step_meaning.specs.declared.value.CType.{CType, end_of-CType, more_of
 use Rattle.step_meaning.specs.declared.value.CType.TheVariants as type
 use Rattle.step_meaning.specs.declared.value.Value.{Value}
 use Rattle.step_meaning.specs.declared.value.Value.TheVariants as value
-use Rattle.step_meaning.specs.declared.value.Cell.TheVariants.{Nothing, Holds}
+use Rattle.step_meaning.specs.declared.value.Cell.TheVariants.{Nothing}
 use Rattle.step_meaning.specs.declared.expr.Expr.{Expr}
 use Rattle.step_meaning.specs.declared.stmt.Stmt.{Stmt}
 use Rattle.step_meaning.specs.declared.program.Declared.{Declared}
@@ -18,8 +18,8 @@ use Rattle.step_meaning.specs.Numbers.{low_bits}
 use Rattle.step_meaning.specs.Names.{integer}
 use Rattle.step_meaning.specs.Types.{same_type, object_cells}
 use Rattle.step_meaning.specs.Library.{int}
-use Rattle.step_meaning.specs.Memory.{Memory, Frame, Slot, empty_block, filled}
-use Rattle.step_meaning.specs.State.{Registers, Lvalue, unset_registers}
+use Rattle.step_meaning.specs.Memory.{Memory, Frame, empty_block, filled}
+use Rattle.step_meaning.specs.State.{unset_registers}
 use Rattle.step_meaning.specs.Statements.{Completion, Next, Broken, Continued, Returned}
 use Rattle.step_meaning.specs.Calls.{annotations, after_annotations, with_arguments, first_frame, with_frame, without_frame, value_or_zero}
 use Rattle.step_meaning.specs.Settings.{setting_of}
@@ -30,18 +30,17 @@ use Rattle.step_meaning.specs.WellFormed.{IsWellFormed, IsWellFormedFunction, Of
 use Rattle.step_meaning.specs.Sources.{is_bare}
 use Rattle.step_meaning.specs.Traced.{SlotTyped}
 use Rattle.step_meaning.proofs.Ranges.{natural_in_range, low_bits_below, false_is_not_true, left_of_and, right_of_and}
-use Rattle.step_meaning.proofs.TypedMemory.{Each, WhereSome, drop_map, InCell, BlockFits, FrameFits, Shape, shape_of, MemoryFits, has_same_type, same_type_turned, is_empty}
+use Rattle.step_meaning.proofs.TypedMemory.{Each, WhereSome, drop_map, InCell, BlockFits, FrameFits, Shape, shape_of, MemoryFits, has_same_type, same_type_turned}
 use Rattle.step_meaning.proofs.StepsFit.{InCells, ReturnFits, global_cells}
 use Rattle.step_meaning.proofs.Kept.{RegistersFit}
 use Rattle.step_meaning.proofs.TypedOperators.{OfType, not_true}
-use Rattle.step_meaning.proofs.TypedStatements.{CompletionFits}
 use Rattle.step_meaning.proofs.TypedCalls.{SizesFit, empty_fits}
 use Rattle.step_meaning.proofs.TypedSizes.{sizes_fit}
 use Rattle.step_meaning.proofs.FormedFunctions.{formed_function}
 use Rattle.run_turns.specs.Pending as pending
 use Rattle.run_turns.specs.Turns as turns
 use Rattle.run_turns.specs.Turns.{Configuration, ready, telling, turn_at}
-use Rattle.run_turns.specs.Typed.{IsCode, CallTakes, EnterTakes, LeaveTakes, TakesValue, TakesLvalue, TakesEnd, Takes, CallersFit, AllRegistersFit, register_types, StateFits, IsTyped}
+use Rattle.run_turns.specs.Typed.{IsCode, CallTakes, EnterTakes, LeaveTakes, TakesValue, TakesEnd, Takes, CallersFit, AllRegistersFit, StateFits, IsTyped}
 use Rattle.run_turns.proofs.ExpressionsTyped.{evaluated_typed, located_typed}
 use Rattle.run_turns.proofs.ValuesTyped.{Here, Fits, operated_typed, accessed_typed, selected_typed, designating_typed}
 use Rattle.run_turns.proofs.StatementsTyped.{ShortLocals, executed_typed, concluded_typed, passed_typed}

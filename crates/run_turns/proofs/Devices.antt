@@ -1,13 +1,11 @@
 -- Input, and the ends of a machine's run.
-use Rattle.std.proofs.Common.{◌≡◌, ℕ, zero, suc, List, [], ◌∷◌, refl, ap, ◌∙◌}
-use Rattle.std.specs.Prelude.{pos, ◌%◌}
+use Rattle.std.proofs.Common.{◌≡◌, ℕ, suc, List, [], ◌∷◌, refl, ap, ◌∙◌}
 use Rattle.step_meaning.specs.declared.value.Value.{Value}
 use Rattle.step_meaning.specs.declared.value.Action.TheVariants as act
 use Rattle.step_meaning.specs.declared.value.RunFault.{RunFault}
 use Rattle.step_meaning.specs.declared.program.Core.{Core}
 use Rattle.step_meaning.specs.Steps.{Stop, Then, Fault}
 use Rattle.step_meaning.specs.Flow.{step_by, RestingCall}
-use Rattle.step_meaning.specs.Statements.{Next}
 use Rattle.step_meaning.specs.First.{first_items}
 use Rattle.step_meaning.specs.Runs.{exit_of}
 use Rattle.run_turns.specs.Pending as pending

@@ -1,5 +1,5 @@
 -- What an expression's turn leaves takes the values of its parts: one lemma for each form.
-use Rattle.std.proofs.Common.{◌≡◌, ℕ, zero, suc, Bool, true, false, cond, ◌&&◌, ◌||◌, not, List, [], ◌∷◌, take, drop, Option, Some, None, refl, sym, ap, ◌∙◌, subst, arith}
+use Rattle.std.proofs.Common.{◌≡◌, ℕ, Bool, true, false, cond, ◌&&◌, ◌||◌, not, List, [], ◌∷◌, Option, Some, None, refl, sym, ap, ◌∙◌, subst, arith}
 use Rattle.std.specs.Prelude.{ℤ, pos, ◌==◌, int_le, is_some, IsTrue, option_map, slice_get}
 use Rattle.std.specs.List.{AllByRecursion}
 use Rattle.step_meaning.specs.declared.value.IntKind.{IntKind}
@@ -23,14 +23,13 @@ use Rattle.step_meaning.specs.declared.expr.Place_.{Place_, end_of-Place_, more_
 use Rattle.step_meaning.specs.declared.program.Core.{Core}
 use Rattle.step_meaning.specs.declared.program.Function.{Function}
 use Rattle.step_meaning.specs.declared.program.Layout.{Layout}
-use Rattle.step_meaning.specs.Numbers.{is_right_operand, is_in_range}
+use Rattle.step_meaning.specs.Numbers.{is_in_range}
 use Rattle.step_meaning.specs.Names.{integer}
-use Rattle.step_meaning.specs.Types.{same_type, where_true}
+use Rattle.step_meaning.specs.Types.{where_true}
 use Rattle.step_meaning.specs.Conversions.{is_promoted, same_int_kind, promoted, common, common_of_promoted}
-use Rattle.step_meaning.specs.TypeRules.{cells, is_scalar, member_type, element_type}
-use Rattle.step_meaning.specs.Settings.{Setting, variable_type, code_setting}
+use Rattle.step_meaning.specs.TypeRules.{cells, is_scalar, element_type}
+use Rattle.step_meaning.specs.Settings.{variable_type, code_setting}
 use Rattle.step_meaning.specs.State.{Lvalue, InRegister, At, designated}
-use Rattle.step_meaning.specs.Statements.{Next}
 use Rattle.step_meaning.specs.ExpressionTypes as typing
 use Rattle.step_meaning.specs.ExpressionTypes.{type_of, type_of_place, has_this_type, has_kind, has_integer_type, has_promoted_kind, has_pointer_type, has_scalar_type, is_void, is_shift, is_null_constant, is_taken_by, is_register, are_of_one_kind, are_of_one_pointer, are_void, is_pointer_beside_null, is_equality, are_comparable, choice_type, converted_type, moved_type, move_type, difference_type, is_addressed_at, is_operation, may_answer, pointed_to, parameter_types, called, call_type, pointer_to}
 use Rattle.step_meaning.proofs.Ranges.{false_is_not_true, left_of_and, right_of_and}
@@ -43,7 +42,7 @@ use Rattle.step_meaning.proofs.TypedOperators.{OfType, of_cell, where_true_fits,
 use Rattle.step_meaning.proofs.TypedPlaces.{Designates, all_some}
 use Rattle.run_turns.specs.Pending as pending
 use Rattle.run_turns.specs.Turns.{Configuration, evaluated, located, ready}
-use Rattle.run_turns.specs.Typed.{IsInteger, IsObject, TakesKind, TakesTruth, TakesAddress, TakesObject, BinaryFits, MoveFits, DifferenceFits, UpdateFits, UpdatedFits, IsTypable, MayGive, IsTypablePlace, MayDesignate, MayGiveAll, Evaluates, OperandTakes, AccessTakes, SelectionTakes, DesignationTakes, CallTakes, TakesValue, TakesLvalue, TakesEnd, Takes, StateFits, IsTyped}
+use Rattle.run_turns.specs.Typed.{IsObject, TakesKind, TakesTruth, UpdateFits, UpdatedFits, IsTypable, IsTypablePlace, MayDesignate, MayGiveAll, Evaluates, OperandTakes, AccessTakes, SelectionTakes, DesignationTakes, CallTakes, TakesValue, TakesLvalue, StateFits, IsTyped}
 use Rattle.run_turns.proofs.TypeTests.{OfSome, some_tells, this_is_there, scalar_is_there, integer_is_there, promoted_is_there, pointer_is_there, of_this, of_kind, of_integer, of_pointer, truth_of_type, right_operand}
 
 -- ---- null pointer constants
@@ -252,10 +251,14 @@ module _ (q : Core) (f : Function) where
     binary_takes o k b c e g h =
         let t = some_tells _ (type.Int k) h.0 in
         let left = left_of_and (has_kind k (ty e)) _ (right_of_and (is_promoted k) _ t) in
-        let right = right_of_and (has_kind k (ty e)) _ (right_of_and (is_promoted k) _ t) in
-        (this_is_there (type.Int k) (ty e) left, λ v x.
-        (right_is_there o k (ty g) right, λ w y.
-        ((left_of_and (is_promoted k) _ t, of_kind k (ty e) v left x.0, right_operand o k (ty g) w right y.0), λ z r. h.1 (value.Int z) (kind_given k _ z r, λ n. false_is_not_true n))))
+        let right = right_of_and (has_kind k (ty e)) _ (right_of_and (is_promoted k) _ t) in (
+          this_is_there (type.Int k) (ty e) left,
+          λ v x. (
+            right_is_there o k (ty g) right,
+            λ w y.
+                ((left_of_and (is_promoted k) _ t, of_kind k (ty e) v left x.0, right_operand o k (ty g) w right y.0), λ z r. h.1 (value.Int z) (kind_given k _ z r, λ n. false_is_not_true n)),
+          ),
+        )
 
     compare_takes : (o : CompareOp) (b c : _) (e g : Expr) → Evaluates q f (Compare' o b (more_of-Expr e end_of-Expr) c (more_of-Expr g end_of-Expr)) takes → Evaluates q f e (OperandTakes q f takes (pending.CompareRight o g))
     compare_takes o b c e g h =
@@ -281,11 +284,13 @@ module _ (q : Core) (f : Function) where
     choose_takes b c d e g k h =
         let t = if_tells _ _ h.0 in
         let s = choices_are_there g k t.1 in
-        let test = t.0 in
-        (scalar_is_there (ty e) test, λ v x. (
-          (s.0, λ w y. h.1 w (chosen (has_scalar_type (ty e)) (choice_type g (ty g) k (ty k)) w (left_choice g k (ty g) (ty k) w y.0 y.1), λ n. false_is_not_true n)),
-          (s.1, λ w y. h.1 w (chosen (has_scalar_type (ty e)) (choice_type g (ty g) k (ty k)) w (right_choice g k (ty g) (ty k) w y.0 y.1), λ n. false_is_not_true n)),
-        ))
+        let test = t.0 in (
+          scalar_is_there (ty e) test,
+          λ v x. (
+            (s.0, λ w y. h.1 w (chosen (has_scalar_type (ty e)) (choice_type g (ty g) k (ty k)) w (left_choice g k (ty g) (ty k) w y.0 y.1), λ n. false_is_not_true n)),
+            (s.1, λ w y. h.1 w (chosen (has_scalar_type (ty e)) (choice_type g (ty g) k (ty k)) w (right_choice g k (ty g) (ty k) w y.0 y.1), λ n. false_is_not_true n)),
+          ),
+        )
       where
         chosen : (b : Bool) (o : Option CType) (w : Value) → OfSome o w → OfSome (cond b o None) w
         chosen true o w h = h
@@ -377,10 +382,18 @@ module _ (q : Core) (f : Function) where
     assign_takes p t b e h =
         let c = some_tells _ t h.0 in
         let here = this_is_there t (typ p) (left_of_and (has_this_type t (typ p)) _ c) in
-        let taken = right_of_and (has_this_type t (typ p)) _ c in
-        (here, λ l x. (place_of (is_register p) (typ p) l here x, (taken_is_there t e taken, λ v y.
-          let g = taken_of t e (ty e) v taken y.0 y.1 in
-          (g, h.1 v (where_true_fits (λ u. OfType u v) _ t (λ e. of_cell t v g), λ n. false_is_not_true n)))))
+        let taken = right_of_and (has_this_type t (typ p)) _ c in (
+          here,
+          λ l x. (
+            place_of (is_register p) (typ p) l here x,
+            (
+              taken_is_there t e taken,
+              λ v y.
+                  let g = taken_of t e (ty e) v taken y.0 y.1 in
+                  (g, h.1 v (where_true_fits (λ u. OfType u v) _ t (λ e. of_cell t v g), λ n. false_is_not_true n)),
+            ),
+          ),
+        )
 
     -- the operation of a compound assignment: its place, and its right side
     operation_parts : (layouts : List Layout) (t : CType) (u : UpdateOp) (a : Option CType) → is_operation layouts t u a ≡ true → (is_some a ≡ true) × ((old : Value) → InCell t old → UpdatedFits t u old) × ((v : Value) → OfSome a v → UpdateFits u v)
@@ -417,10 +430,12 @@ module _ (q : Core) (f : Function) where
     update_takes p t u b e w h =
         let c = some_tells _ t h.0 in
         let here = this_is_there t (typ p) (left_of_and (has_this_type t (typ p)) _ c) in
-        let op = operation_parts q.layouts t u (ty e) (left_of_and (is_operation q.layouts t u (ty e)) _ (right_of_and (has_this_type t (typ p)) _ c)) in
-        (here, λ l x.
-          let place = place_of (is_register p) (typ p) l here x in
-          (place, λ old g. (place, g, op.1 old g, (op.0, λ v y. op.2 v y.0), λ v k. h.1 v (where_true_fits (λ u. OfType u v) _ t (λ e. of_cell t v k), λ n. false_is_not_true n))))
+        let op = operation_parts q.layouts t u (ty e) (left_of_and (is_operation q.layouts t u (ty e)) _ (right_of_and (has_this_type t (typ p)) _ c)) in (
+          here,
+          λ l x.
+              let place = place_of (is_register p) (typ p) l here x in
+              (place, λ old g. (place, g, op.1 old g, (op.0, λ v y. op.2 v y.0), λ v k. h.1 v (where_true_fits (λ u. OfType u v) _ t (λ e. of_cell t v k), λ n. false_is_not_true n))),
+        )
 
     -- ---- calls
 
@@ -504,9 +519,11 @@ module _ (q : Core) (f : Function) where
 
     element_takes : (b c : _) (p : Place_) (e : Expr) (size : ℕ) → Finds (Index' b (more_of-Place_ p end_of-Place_) c (more_of-Expr e end_of-Expr) size) → IsTypablePlace q f p × ((l : Lvalue) → MayDesignate q f p l → SelectionTakes q f finds (pending.ElementAt e size) l)
     element_takes b c p e size h =
-        let integer = (if_tells (has_integer_type (ty e)) _ h.0).0 in
-        (element_is_there q.layouts size (typ p) (ty e) h.0, λ l x.
-        (array_object q.layouts size (is_register p) (typ p) (ty e) l h.0 x, (integer_is_there (ty e) integer, λ i y. of_integer (ty e) i integer y.0), λ v g. h.1 (At v) (object_given false (typing.type_of_element q.layouts size (typ p) (ty e)) v g)))
+        let integer = (if_tells (has_integer_type (ty e)) _ h.0).0 in (
+          element_is_there q.layouts size (typ p) (ty e) h.0,
+          λ l x.
+              (array_object q.layouts size (is_register p) (typ p) (ty e) l h.0 x, (integer_is_there (ty e) integer, λ i y. of_integer (ty e) i integer y.0), λ v g. h.1 (At v) (object_given false (typing.type_of_element q.layouts size (typ p) (ty e)) v g)),
+        )
 
     -- registers are scalars
     abbrev pub ScalarRegisters : Type 0

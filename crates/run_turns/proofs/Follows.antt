@@ -1,10 +1,9 @@
 -- What a turn makes is what was to be done: one line for each form.
-use Rattle.std.proofs.Common.{◌≡◌, ℕ, zero, suc, ◌+◌, Bool, true, false, cond, List, [], ◌∷◌, Option, Some, None, Result, Ok, Err, refl, sym, ap, ◌∙◌, subst}
-use Rattle.std.specs.Prelude.{ℤ, take, drop, option_map, not, ◌==◌}
+use Rattle.std.proofs.Common.{◌≡◌, ℕ, Bool, true, false, cond, List, [], ◌∷◌, Option, Some, None, Result, Ok, Err, refl, ap}
+use Rattle.std.specs.Prelude.{ℤ, take, drop}
 use Rattle.step_meaning.specs.declared.value.CType.{CType}
 use Rattle.step_meaning.specs.declared.value.CType.TheVariants as type
 use Rattle.step_meaning.specs.declared.value.Value.{Value}
-use Rattle.step_meaning.specs.declared.value.Value.TheVariants as value
 use Rattle.step_meaning.specs.declared.value.Cell.{Cell}
 use Rattle.step_meaning.specs.declared.value.Cell.TheVariants.{Nothing, Holds}
 use Rattle.step_meaning.specs.declared.value.Action.{Action}
@@ -22,10 +21,9 @@ use Rattle.step_meaning.specs.declared.expr.Place_.{Place_, end_of-Place_, more_
 use Rattle.step_meaning.specs.declared.stmt.Stmt.{Stmt, Row_of-Stmt, end_of-Stmt, more_of-Stmt, items-the_row-Stmt}
 use Rattle.step_meaning.specs.declared.stmt.Stmt.TheVariants as st
 use Rattle.step_meaning.specs.declared.program.Core.{Core}
-use Rattle.step_meaning.specs.declared.program.Function.{Function}
-use Rattle.step_meaning.specs.Names.{truth, of_truth}
+use Rattle.step_meaning.specs.Names.{truth}
 use Rattle.step_meaning.specs.Memory.{Memory, Block, reached, freed}
-use Rattle.step_meaning.specs.Steps.{Trace, Stop, Then, End}
+use Rattle.step_meaning.specs.Steps.{Trace, Then}
 use Rattle.step_meaning.specs.State.{State, Registers, Here, Lvalue, InRegister, At, register_at}
 use Rattle.step_meaning.specs.Flow.{resting, Resting, RestingCall, step_by}
 use Rattle.step_meaning.specs.Accesses.{checked, as_int, as_truth, load, store, move_elements, object_after, converted_to, answer}

@@ -1,26 +1,23 @@
 -- What is left to do, with larger bounds: one line for each pending part.
-use Rattle.std.proofs.Common.{◌≡◌, ℕ, zero, suc, ◌+◌, ◌≤◌, Bool, true, false, cond, List, [], ◌∷◌, Option, Some, None, refl, arith}
-use Rattle.std.specs.Prelude.{take, drop, ◌==◌}
+use Rattle.std.proofs.Common.{ℕ, suc, ◌≤◌, List, [], ◌∷◌, Some, arith}
+use Rattle.std.specs.Prelude.{take, drop}
 use Rattle.step_meaning.specs.declared.value.Value.{Value}
 use Rattle.step_meaning.specs.declared.value.Value.TheVariants as value
 use Rattle.step_meaning.specs.declared.value.RunFault.TheVariants as fault
-use Rattle.step_meaning.specs.declared.value.Action.TheVariants as act
 use Rattle.step_meaning.specs.declared.expr.UpdateOp.{UpdateOp}
 use Rattle.step_meaning.specs.declared.expr.Answer.{Answer}
 use Rattle.step_meaning.specs.declared.expr.Expr.{Expr}
-use Rattle.step_meaning.specs.declared.expr.Place_.{Place_}
 use Rattle.step_meaning.specs.declared.value.CType.{CType}
 use Rattle.step_meaning.specs.declared.stmt.Stmt.{Stmt, end_of-Stmt, more_of-Stmt}
 use Rattle.step_meaning.specs.declared.stmt.Stmt.TheVariants as st
 use Rattle.step_meaning.specs.declared.program.Core.{Core}
-use Rattle.step_meaning.specs.declared.program.Function.{Function}
 use Rattle.step_meaning.specs.Names.{truth}
-use Rattle.step_meaning.specs.Steps.{Trace, Stop, End, Exit, Fault, More}
-use Rattle.step_meaning.specs.State.{State, Registers, Here, Lvalue, InRegister, At}
+use Rattle.step_meaning.specs.Steps.{Trace, Fault}
+use Rattle.step_meaning.specs.State.{State, Registers, Here, Lvalue}
 use Rattle.step_meaning.specs.Flow.{resting, Resting, RestingCall}
 use Rattle.step_meaning.specs.Statements.{Completion, Next, Broken, Continued, Returned}
 use Rattle.step_meaning.specs.Runs.{exit_of}
-use Rattle.step_meaning.proofs.Bounds.{Counts, IsReal, Same, SameCall, same_bind, same_pure, same_cond, same_emit, same_through, same_checked, same_int, same_truth, same_load, same_store, same_address_of, same_object_after, same_move_elements, same_updated, same_allocate, same_release, same_get_char, same_put_char, same_eval, same_place, same_exec, same_exec_all, same_on_next, same_at_end, same_after_turn, same_when, same_step_of, same_given, same_close, same_then, halted}
+use Rattle.step_meaning.proofs.Bounds.{Counts, IsReal, Same, SameCall, same_bind, same_pure, same_cond, same_emit, same_through, same_int, same_truth, same_load, same_store, same_address_of, same_object_after, same_move_elements, same_updated, same_allocate, same_release, same_get_char, same_put_char, same_eval, same_place, same_exec, same_exec_all, same_on_next, same_at_end, same_after_turn, same_when, same_step_of, same_given, same_close, same_then, halted}
 use Rattle.run_turns.specs.Pending as pending
 
 exit_real : (v : Value) → IsReal (exit_of v)

@@ -1,6 +1,6 @@
 -- What a turn at a statement leaves is typed: its start, its conclusion, loops and blocks.
-use Rattle.std.proofs.Common.{◌≡◌, ℕ, zero, suc, ◌<◌, ◌^◌, Bool, true, false, cond, ◌&&◌, List, [], ◌∷◌, length, Option, Some, None, refl, arith}
-use Rattle.std.specs.Prelude.{IsTrue, is_some, nat_le, option_map, slice_get}
+use Rattle.std.proofs.Common.{◌≡◌, ℕ, zero, suc, ◌<◌, ◌^◌, Bool, true, false, cond, List, [], ◌∷◌, length, Option, Some, None, refl, arith}
+use Rattle.std.specs.Prelude.{nat_le, option_map, slice_get}
 use Rattle.std.specs.List.{AllByRecursion}
 use Rattle.step_meaning.specs.declared.value.CType.{CType}
 use Rattle.step_meaning.specs.declared.value.CType.TheVariants as type
@@ -19,7 +19,7 @@ use Rattle.step_meaning.specs.State.{designated}
 use Rattle.step_meaning.specs.Statements.{Completion, Next, Broken, Continued, Returned}
 use Rattle.step_meaning.specs.Settings.{Setting, code_setting, variable_type}
 use Rattle.step_meaning.specs.ExpressionTypes.{type_of, has_this_type, has_a_type, is_condition, gives}
-use Rattle.step_meaning.specs.StatementRules.{StatementFits, RowFits, where_there, cell_type, may_return}
+use Rattle.step_meaning.specs.StatementRules.{RowFits, where_there, cell_type, may_return}
 use Rattle.step_meaning.specs.Sources.{is_bare, are_bare}
 use Rattle.step_meaning.proofs.Ranges.{false_is_not_true, left_of_and, right_of_and}
 use Rattle.step_meaning.proofs.TypedMemory.{WhereSome, InCell}
@@ -29,7 +29,7 @@ use Rattle.step_meaning.proofs.TypedStatements.{CompletionFits}
 use Rattle.run_turns.specs.Pending as pending
 use Rattle.run_turns.specs.Turns as turns
 use Rattle.run_turns.specs.Turns.{Configuration, ready}
-use Rattle.run_turns.specs.Typed.{IsTypable, MayGive, Evaluates, IsCode, Executes, ExecutesInLoop, IsLoop, EvaluatesAny, EndTakes, TurnEndTakes, LoopTakes, RestTakes, PassingTakes, ConclusionTakes, TakesEnd}
+use Rattle.run_turns.specs.Typed.{IsTypable, MayGive, IsCode, Executes, IsLoop, EvaluatesAny, EndTakes, TurnEndTakes, LoopTakes, RestTakes, PassingTakes, ConclusionTakes, TakesEnd}
 use Rattle.run_turns.proofs.TypeTests.{scalar_is_there}
 use Rattle.run_turns.proofs.ExpressionsTyped.{taken_of, taken_is_there}
 use Rattle.run_turns.proofs.ValuesTyped.{Here, Fits}

@@ -1,17 +1,14 @@
 -- From what a turn makes to the steps of the machine's run.
-use Rattle.std.proofs.Common.{◌≡◌, ℕ, zero, suc, ◌+◌, ◌≤◌, Bool, true, false, cond, List, [], ◌∷◌, Option, Some, None, refl, sym, ap, ◌∙◌, subst, arith}
+use Rattle.std.proofs.Common.{◌≡◌, ℕ, suc, ◌≤◌, List, [], Option, Some, None, refl, sym, ap, ◌∙◌, arith}
 use Rattle.std.specs.Prelude.{take, drop, option_map, ◌==◌, slice_get}
 use Rattle.step_meaning.specs.declared.value.Value.{Value}
 use Rattle.step_meaning.specs.declared.value.Action.{Action}
 use Rattle.step_meaning.specs.declared.value.Action.TheVariants as act
-use Rattle.step_meaning.specs.declared.value.RunFault.TheVariants as fault
-use Rattle.step_meaning.specs.declared.expr.Expr.{Expr}
 use Rattle.step_meaning.specs.declared.stmt.Stmt.{Stmt, end_of-Stmt, more_of-Stmt}
 use Rattle.step_meaning.specs.declared.stmt.Stmt.TheVariants as st
 use Rattle.step_meaning.specs.declared.program.Core.{Core}
 use Rattle.step_meaning.specs.declared.program.Function.{Function}
-use Rattle.step_meaning.specs.Memory.{Memory}
-use Rattle.step_meaning.specs.Steps.{Trace, Stop, Then, Item, Made, End, More}
+use Rattle.step_meaning.specs.Steps.{Trace, Then}
 use Rattle.step_meaning.specs.State.{State, Registers, Here, unset_registers}
 use Rattle.step_meaning.specs.Flow.{resting, Resting, RestingCall, step_by}
 use Rattle.step_meaning.specs.Expressions as ex
@@ -20,14 +17,14 @@ use Rattle.step_meaning.specs.Statements.{Completion, Next, Broken, Continued, R
 use Rattle.step_meaning.specs.Calls as ca
 use Rattle.step_meaning.specs.First.{first_items}
 use Rattle.step_meaning.specs.Runs.{run}
-use Rattle.step_meaning.proofs.Bounds.{Counts, Same, SameCall, same_bind, same_pure, same_eval, same_exec, same_at_end, same_when, same_step_of, same_turns, same_calls, same_after_turn}
-use Rattle.step_meaning.proofs.FirstSteps.{cut, Alike, alike_counts, items_of_cut}
+use Rattle.step_meaning.proofs.Bounds.{Same, SameCall, same_bind, same_pure, same_exec, same_at_end, same_when, same_step_of, same_turns, same_calls, same_after_turn}
+use Rattle.step_meaning.proofs.FirstSteps.{Alike, alike_counts, items_of_cut}
 use Rattle.run_turns.specs.Pending as pending
 use Rattle.run_turns.specs.Turns as turns
 use Rattle.run_turns.specs.Turns.{Configuration, Turn, state_of, rest_of, moved, makes, ready, turn_at, start}
 use Rattle.run_turns.specs.Rest.{rest}
 use Rattle.run_turns.proofs.Follows.{stepped, evaluates, locates, executes, operates, accesses, selects, designates, concludes, passes, argues, gives_back, IsSettled}
-use Rattle.run_turns.proofs.PendingBounds.{Onward, Up, part_alike, resume_alike}
+use Rattle.run_turns.proofs.PendingBounds.{Onward, part_alike, resume_alike}
 
 -- ---- larger bounds
 
@@ -137,9 +134,9 @@ loop_makes q s is m input n =
     let rest1 = pending.completion_to (pending.resume q c1 k1 m.work) m.context in
     let old : rest_of q c2 k2 (looping s m) input ≡ sm.turns resting here (turn_body q c2 k2 here s) k2 rest2 (state_of m input) m.context.registers = ap (λ (d : Resting Completion). d rest2 (state_of m input) m.context.registers) (loop_turns q c2 k2 here s is) in
     let new : rest_of q c1 k1 (turns.turning s (looping s m)) input ≡ resting.bind (turn_body q c1 k1 here s) (sm.after_turn resting (sm.turns resting here (turn_body q c1 k1 here s) k1)) rest1 (state_of m input) m.context.registers =
-      loop_turning q c1 k1 s is (looping s m) input ∙ ap (λ (d : Resting Completion). resting.bind (turn_body q c1 k1 here s) (sm.after_turn resting d) rest1 (state_of m input) m.context.registers) (loop_turns q c1 k1 here s is) in
+    loop_turning q c1 k1 s is (looping s m) input ∙ ap (λ (d : Resting Completion). resting.bind (turn_body q c1 k1 here s) (sm.after_turn resting d) rest1 (state_of m input) m.context.registers) (loop_turns q c1 k1 here s is) in
     let turn : Same Alike alike_counts k1 (resting.bind (turn_body q c2 k2 here s) (sm.after_turn resting (sm.turns resting here (turn_body q c2 k2 here s) k1))) (resting.bind (turn_body q c1 k1 here s) (sm.after_turn resting (sm.turns resting here (turn_body q c1 k1 here s) k1))) =
-      same_bind Alike alike_counts k1 bodies (same_after_turn Alike alike_counts k1 (same_turns Alike alike_counts k1 here bodies k1 k1 (omega arith) (omega arith))) in
+    same_bind Alike alike_counts k1 bodies (same_after_turn Alike alike_counts k1 (same_turns Alike alike_counts k1 here bodies k1 k1 (omega arith) (omega arith))) in
     let alike = turn.by k1 (omega arith) rest2 rest1 (λ j jl l s r. below j jl (pending.Left l) (record m.context { registers = r }) s) (state_of m input) m.context.registers in
     ap (first_items k1) old ∙ ap (Then (step_by here act.Turn m.memory)) (from_alike n _ _ alike ∙ ap (first_items n) (sym new))
 
@@ -193,11 +190,11 @@ enter_makes q g i f body found has none same m input n =
     let leaves = λ (j : ℕ) (jl : j ≤ k1). part_alike Alike alike_counts q k1 inner c1 inside k2 k1 (omega arith) (omega arith) (pending.Leave g f.result) j (omega arith) next2 next1 (λ i il. below i (omega arith)) in
     let alike = part_alike Alike alike_counts q k1 inner c1 inside k2 k1 (omega arith) (omega arith) (pending.Pass (pending.Rest body)) k1 (omega arith) leave2 leave1 leaves e.told e.context (state_of e input) in
     let opened : rest_of q c2 k2 (entering g i m) input ≡ ca.activation resting q k2 inner g f body vs (λ v s r. next2 (pending.Gave v) (record m.context { arguments = drop i m.context.arguments }) s) (state_of m input) (unset_registers f.registers) =
-      entered_by q g i f body found has k1 k2 (λ v s. next2 (pending.Gave v) (record m.context { arguments = drop i m.context.arguments }) s) (state_of m input) vs in
+    entered_by q g i f body found has k1 k2 (λ v s. next2 (pending.Gave v) (record m.context { arguments = drop i m.context.arguments }) s) (state_of m input) vs in
     let back : Value → State → Registers → Trace = λ v s r. next2 (pending.Gave v) (record m.context { arguments = drop i m.context.arguments }) s in
     let plain : ca.activation resting q k2 inner g f body vs back (state_of m input) (unset_registers f.registers) ≡ activation_by q inner k2 g f [] body vs back (state_of m input) (unset_registers f.registers) =
-      ap (λ (l : List Stmt). activation_by q inner k2 g f l (ca.after_annotations body) vs back (state_of m input) (unset_registers f.registers)) none
-      ∙ ap (λ (l : List Stmt). activation_by q inner k2 g f [] l vs back (state_of m input) (unset_registers f.registers)) same in
+    ap (λ (l : List Stmt). activation_by q inner k2 g f l (ca.after_annotations body) vs back (state_of m input) (unset_registers f.registers)) none
+    ∙ ap (λ (l : List Stmt). activation_by q inner k2 g f [] l vs back (state_of m input) (unset_registers f.registers)) same in
     ap (first_items k1) (opened ∙ plain) ∙ ap (Then step) (from_alike n _ _ alike)
 
 -- ---- the turn at a pending part

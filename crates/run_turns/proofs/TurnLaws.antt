@@ -1,5 +1,5 @@
 -- The laws on each turn, for a typed machine: what is left falls where no step is made, and the stack keeps its room.
-use Rattle.std.proofs.Common.{◌≡◌, ℕ, zero, suc, ◌+◌, ◌<◌, ◌≤◌, Bool, true, false, List, [], ◌∷◌, length, Option, Some, None, refl, arith}
+use Rattle.std.proofs.Common.{◌≡◌, ℕ, ◌+◌, ◌<◌, Bool, true, false, List, [], ◌∷◌, Option, Some, None, arith}
 use Rattle.std.specs.Prelude.{◌==◌}
 use Rattle.step_meaning.specs.declared.value.CType.{CType}
 use Rattle.step_meaning.specs.declared.value.CType.TheVariants as type
@@ -14,7 +14,7 @@ use Rattle.step_meaning.specs.Statements.{Completion, Next, Broken, Continued, R
 use Rattle.run_turns.specs.Pending as pending
 use Rattle.run_turns.specs.Turns as turns
 use Rattle.run_turns.specs.Turns.{Configuration, Turn, ready, telling, turn_at}
-use Rattle.run_turns.specs.Weight.{weigh_all, weight, load}
+use Rattle.run_turns.specs.Weight.{weight, load}
 use Rattle.run_turns.specs.Room.{need, Roomy}
 use Rattle.run_turns.specs.Typed.{Takes, TakesEnd, IsLoop, PassingTakes}
 use Rattle.run_turns.proofs.Falls.{Falls, evaluated_falls, located_falls, executed_falls, operated_falls, accessed_falls, selected_falls, designating_falls, concluded_falls, next_falls, turn_end_falls}

@@ -1,13 +1,11 @@
 -- A property of values stays with a machine's values from turn to turn.
-use Rattle.std.proofs.Common.{◌≡◌, ℕ, zero, suc, Bool, true, false, cond, List, [], ◌∷◌, take, drop, Option, Some, None, Result, Ok, Err, refl, sym, subst}
+use Rattle.std.proofs.Common.{◌≡◌, ℕ, Bool, true, false, cond, List, [], ◌∷◌, Option, Some, None, Result, Ok, Err, refl, sym, subst}
 use Rattle.std.specs.Prelude.{ℤ, pos, ◌*◌, ◌==◌, IsTrue, is_some}
 use Rattle.std.specs.List.{AllByRecursion}
 use Rattle.step_meaning.specs.declared.value.CType.{CType}
 use Rattle.step_meaning.specs.declared.value.CType.TheVariants as type
 use Rattle.step_meaning.specs.declared.value.Value.{Value}
 use Rattle.step_meaning.specs.declared.value.Value.TheVariants as value
-use Rattle.step_meaning.specs.declared.value.NameKind.{NameKind}
-use Rattle.step_meaning.specs.declared.value.NameKind.TheVariants as names
 use Rattle.step_meaning.specs.declared.value.Cell.{Cell}
 use Rattle.step_meaning.specs.declared.value.Cell.TheVariants.{Nothing, Holds}
 use Rattle.step_meaning.specs.declared.value.RunFault.{RunFault}
@@ -25,14 +23,14 @@ use Rattle.step_meaning.specs.declared.stmt.Stmt.{Stmt, end_of-Stmt, more_of-Stm
 use Rattle.step_meaning.specs.declared.stmt.Stmt.TheVariants as st
 use Rattle.step_meaning.specs.declared.program.Core.{Core}
 use Rattle.step_meaning.specs.declared.program.Function.{Function}
-use Rattle.step_meaning.specs.Numbers.{binary_of, unary_of, low_bits}
-use Rattle.step_meaning.specs.Names.{truth, of_truth, integer, moved as moved_pointer}
-use Rattle.step_meaning.specs.Memory.{Memory, Block, room_at, reached, freed}
+use Rattle.step_meaning.specs.Numbers.{low_bits}
+use Rattle.step_meaning.specs.Names.{truth, integer}
+use Rattle.step_meaning.specs.Memory.{Memory, Block, room_at}
 use Rattle.step_meaning.specs.Accesses.{answer}
 use Rattle.step_meaning.specs.Allocation.{block_for, block_where, block_pointer, is_block_size}
 use Rattle.step_meaning.specs.Types.{times, object_cells}
 use Rattle.step_meaning.specs.TypeRules.{cells}
-use Rattle.step_meaning.specs.State.{Lvalue, InRegister, At, register_at, designated}
+use Rattle.step_meaning.specs.State.{Lvalue, InRegister, At, designated}
 use Rattle.step_meaning.specs.Statements.{Completion, Next, Broken, Continued, Returned}
 use Rattle.step_meaning.specs.Calls.{value_or_zero}
 use Rattle.run_turns.specs.Pending as pending
@@ -40,7 +38,7 @@ use Rattle.run_turns.specs.Turns as turns
 use Rattle.run_turns.specs.Turns.{Configuration, ready, telling, turn_at}
 use Rattle.run_turns.specs.Typed.{IsTypablePlace, Takes}
 use Rattle.run_turns.proofs.CallsTyped.{IsInner}
-use Rattle.run_turns.specs.Values.{LvalueHas, OptionHas, CompletionHas, ToldHas, OperandHas, DesignationHas, PartHas, CellHas, BlockHas, BlocksHave, MemoryHas, RegistersHave, KeptHas, StateHas}
+use Rattle.run_turns.specs.Values.{LvalueHas, OptionHas, CompletionHas, ToldHas, OperandHas, DesignationHas, PartHas, CellHas, BlockHas, MemoryHas, RegistersHave, KeptHas, StateHas}
 use Rattle.run_turns.proofs.ValuesHeld.{IgnoresOffsets, OkHas, WhereSome, truth_has, moved_has, stored_has, reached_has, register_has, set_register_has, unset_has, freed_has, tail_has}
 
 module _ (P : Value → Type 0) (closed : IgnoresOffsets P) where

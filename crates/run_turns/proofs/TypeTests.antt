@@ -1,29 +1,25 @@
 -- What a test on a type tells of the values of the type.
 use Rattle.std.proofs.lemmas.Bool.{le-leb}
-use Rattle.std.proofs.Common.{◌≡◌, ℕ, ◌<◌, ◌≤◌, Bool, true, false, cond, ◌&&◌, ◌||◌, not, Option, Some, None, List, refl, sym, ap, ◌∙◌, subst, arith}
-use Rattle.std.specs.Prelude.{ℤ, pos, negsuc, is_some, IsTrue, ◌==◌}
+use Rattle.std.proofs.Common.{◌≡◌, ◌<◌, ◌≤◌, Bool, true, false, cond, Option, Some, None, refl, arith}
+use Rattle.std.specs.Prelude.{ℤ, pos, negsuc, is_some}
 use Rattle.step_meaning.specs.declared.value.IntKind.{IntKind}
 use Rattle.step_meaning.specs.declared.value.IntKind.TheVariants as kind
-use Rattle.step_meaning.specs.declared.value.CType.{CType, end_of-CType, more_of-CType}
+use Rattle.step_meaning.specs.declared.value.CType.{CType}
 use Rattle.step_meaning.specs.declared.value.CType.TheVariants as type
 use Rattle.step_meaning.specs.declared.value.Value.{Value}
-use Rattle.step_meaning.specs.declared.value.Value.TheVariants as value
 use Rattle.step_meaning.specs.declared.expr.IntOp.{IntOp}
 use Rattle.step_meaning.specs.declared.expr.IntOp.TheVariants as op
-use Rattle.step_meaning.specs.declared.expr.Expr.{Expr}
-use Rattle.step_meaning.specs.declared.expr.Expr.TheVariants as e
 use Rattle.step_meaning.specs.Types.{where_true}
 use Rattle.step_meaning.specs.Names.{integer, of_truth}
-use Rattle.step_meaning.specs.Numbers.{is_signed, is_in_range, is_right_operand}
-use Rattle.step_meaning.specs.Conversions.{is_promoted}
+use Rattle.step_meaning.specs.Numbers.{is_signed, is_right_operand}
 use Rattle.step_meaning.specs.TypeRules.{is_scalar}
-use Rattle.step_meaning.specs.ExpressionTypes.{has_this_type, has_kind, has_integer_type, has_promoted_kind, has_pointer_type, has_scalar_type, is_shift, is_null_constant, is_taken_by, pointer_to}
-use Rattle.step_meaning.proofs.Ranges.{bound, false_is_not_true, left_of_and, right_of_and, and_true, natural_in_range, natural_below, negative_below}
+use Rattle.step_meaning.specs.ExpressionTypes.{has_this_type, has_kind, has_integer_type, has_promoted_kind, has_pointer_type, has_scalar_type, is_shift}
+use Rattle.step_meaning.proofs.Ranges.{bound, false_is_not_true, and_true, natural_below, negative_below}
 use Rattle.step_meaning.proofs.OperatorRanges.{InRange}
 use Rattle.step_meaning.proofs.TypedMemory.{WhereSome, InCell}
 use Rattle.step_meaning.proofs.StepsFit.{IsAddress}
-use Rattle.step_meaning.proofs.TypedAccesses.{address_of_type, type_of_address}
-use Rattle.step_meaning.proofs.TypedOperators.{OfType, of_cell, in_same_cell, integer_in_range, either_true}
+use Rattle.step_meaning.proofs.TypedAccesses.{address_of_type}
+use Rattle.step_meaning.proofs.TypedOperators.{OfType, in_same_cell, integer_in_range}
 use Rattle.run_turns.specs.Typed.{IsInteger}
 
 -- a value of the type, where there is one

@@ -1,32 +1,24 @@
 -- A property of values that doesn't see offsets, and that the variables and new blocks of a program have, stays with a machine's values from turn to turn.
-use Rattle.std.proofs.Common.{◌≡◌, ℕ, zero, suc, Bool, true, false, cond, List, [], ◌∷◌, length, map, take, drop, Option, Some, None, Result, Ok, Err, refl, sym, ap, subst}
-use Rattle.std.specs.Prelude.{ℤ, pos, negsuc, ◌+ℤ◌, ◌*ℤ◌, neg_ℤ, nat_le, ◌==◌, slice_get, option_and_then}
+use Rattle.std.proofs.Common.{ℕ, zero, suc, Bool, true, false, cond, List, [], ◌∷◌, map, drop, Option, Some, None, Result, Ok, Err}
+use Rattle.std.specs.Prelude.{ℤ, pos, negsuc, ◌+ℤ◌, nat_le, ◌==◌, slice_get, option_and_then}
 use Rattle.std.specs.List.{AllByRecursion}
 use Rattle.step_meaning.specs.declared.value.CType.{CType}
-use Rattle.step_meaning.specs.declared.value.CType.TheVariants as type
 use Rattle.step_meaning.specs.declared.value.NameKind.{NameKind}
 use Rattle.step_meaning.specs.declared.value.NameKind.TheVariants as names
 use Rattle.step_meaning.specs.declared.value.Name.{Name}
 use Rattle.step_meaning.specs.declared.value.Value.{Value}
 use Rattle.step_meaning.specs.declared.value.Value.TheVariants as value
-use Rattle.step_meaning.specs.declared.value.Cell.{Cell}
-use Rattle.step_meaning.specs.declared.value.Cell.TheVariants.{Nothing, Holds}
+use Rattle.step_meaning.specs.declared.value.Cell.TheVariants.{Holds}
 use Rattle.step_meaning.specs.declared.value.RunFault.{RunFault}
 use Rattle.step_meaning.specs.declared.value.RunFault.TheVariants as fault
-use Rattle.step_meaning.specs.declared.expr.Side.{Side}
-use Rattle.step_meaning.specs.declared.expr.Side.TheVariants.{PointerFirst, PointerLast, Minus}
-use Rattle.step_meaning.specs.declared.expr.UpdateOp.{UpdateOp}
-use Rattle.step_meaning.specs.declared.expr.UpdateOp.TheVariants.{Integer, Forward, Backward}
-use Rattle.step_meaning.specs.declared.expr.Answer.{Answer}
-use Rattle.step_meaning.specs.declared.expr.Answer.TheVariants.{Before, After}
-use Rattle.step_meaning.specs.Names.{within, moved as moved_pointer, of_truth, truth}
-use Rattle.step_meaning.specs.Memory.{Memory, Slot, Block, Frame, HeapBlock, block, block_in, frame_of, block_of, heap_block, slot_at, typed, reached, set_cell, at_block, at_frame, at_heap, changed, stored, without, begins_block, freed, with_block, unset_cells, empty_block, filled}
-use Rattle.step_meaning.specs.State.{Registers, Lvalue, InRegister, At, register_at, set_register, unset_registers}
+use Rattle.step_meaning.specs.Names.{within, moved as moved_pointer, of_truth}
+use Rattle.step_meaning.specs.Memory.{Memory, Slot, Block, Frame, HeapBlock, block, block_in, frame_of, block_of, slot_at, typed, reached, set_cell, at_block, at_frame, at_heap, changed, stored, without, begins_block, freed, unset_cells, empty_block, filled}
+use Rattle.step_meaning.specs.State.{Registers, register_at, set_register, unset_registers}
 use Rattle.step_meaning.specs.Types.{same_type}
 use Rattle.step_meaning.specs.declared.program.Declared.{Declared}
 use Rattle.step_meaning.specs.declared.program.Layout.{Layout}
 use Rattle.step_meaning.specs.Calls.{with_arguments, without_frame}
-use Rattle.run_turns.specs.Values.{LvalueHas, OptionHas, CellHas, BlockHas, BlocksHave, MemoryHas, RegistersHave}
+use Rattle.run_turns.specs.Values.{CellHas, BlockHas, BlocksHave, MemoryHas, RegistersHave}
 
 -- ints, null, and with a pointer each into the same variable or block
 pub record IgnoresOffsets (P : Value → Type 0) : Type 0 where

@@ -1,5 +1,5 @@
 -- What a turn at a value or an lvalue leaves is typed: operators, accesses, compound assignments, the heap.
-use Rattle.std.proofs.Common.{◌≡◌, ℕ, zero, suc, ◌≤◌, ◌<◌, ◌^◌, Bool, true, false, cond, List, [], ◌∷◌, length, map, Option, Some, None, Result, Ok, Err, refl, sym, ap, ◌∙◌, subst, arith}
+use Rattle.std.proofs.Common.{◌≡◌, ℕ, zero, suc, ◌≤◌, ◌<◌, ◌^◌, Bool, true, false, cond, List, ◌∷◌, Option, Some, None, Result, Ok, Err, refl, sym, subst, arith}
 use Rattle.std.specs.Prelude.{ℤ, pos, negsuc, ◌+ℤ◌, ◌*ℤ◌, neg_ℤ, nat_le, slice_get}
 use Rattle.std.proofs.lemmas.Bool.{leb-true}
 use Rattle.step_meaning.specs.declared.value.IntKind.{IntKind}
@@ -12,34 +12,32 @@ use Rattle.step_meaning.specs.declared.value.Cell.{Cell}
 use Rattle.step_meaning.specs.declared.value.Cell.TheVariants.{Nothing, Holds}
 use Rattle.step_meaning.specs.declared.value.RunFault.{RunFault}
 use Rattle.step_meaning.specs.declared.value.RunFault.TheVariants as fault
-use Rattle.step_meaning.specs.declared.expr.Side.{Side}
 use Rattle.step_meaning.specs.declared.expr.Side.TheVariants.{PointerFirst, PointerLast, Minus}
 use Rattle.step_meaning.specs.declared.expr.UpdateOp.{UpdateOp}
 use Rattle.step_meaning.specs.declared.expr.UpdateOp.TheVariants.{Integer, Forward, Backward}
 use Rattle.step_meaning.specs.declared.expr.Answer.{Answer}
 use Rattle.step_meaning.specs.declared.expr.Answer.TheVariants.{Before, After}
-use Rattle.step_meaning.specs.declared.expr.Expr.{Expr}
 use Rattle.step_meaning.specs.declared.program.Core.{Core}
 use Rattle.step_meaning.specs.declared.program.Function.{Function}
 use Rattle.step_meaning.specs.Numbers.{low_bits, binary_of, unary_of, converted}
 use Rattle.step_meaning.specs.Names.{truth, integer, within, moved as moved_pointer, distance}
 use Rattle.step_meaning.specs.Conversions.{same_int_kind}
-use Rattle.step_meaning.specs.Memory.{Memory, Block, room_at, reached, stored, freed}
+use Rattle.step_meaning.specs.Memory.{Memory, Block, room_at, reached, freed}
 use Rattle.step_meaning.specs.Accesses.{brought, answer}
-use Rattle.step_meaning.specs.Allocation.{block_for, block_pointer}
-use Rattle.step_meaning.specs.State.{Lvalue, InRegister, At, Registers, register_at}
+use Rattle.step_meaning.specs.Allocation.{block_pointer}
+use Rattle.step_meaning.specs.State.{Lvalue, InRegister, At, register_at}
 use Rattle.step_meaning.specs.Traced.{CellHasType, SlotTyped}
 use Rattle.step_meaning.proofs.Ranges.{converted_in_range}
 use Rattle.step_meaning.proofs.OperatorRanges.{OnOk, InRange, binary_fits, unary_fits, distance_fits}
 use Rattle.step_meaning.proofs.TypedMemory.{WhereSome, InCell, BlockFits, MemoryFits, HeapFalls, get_fits, typed_fits, has_same_type, reached_fits, room_fits, stored_fits, stored_falls, block_begins, freed_fits, freed_falls}
 use Rattle.step_meaning.proofs.StepsFit.{IsAddress, global_cells}
-use Rattle.step_meaning.proofs.TypedAccesses.{IsPlace, address_of_type, type_of_address, set_registers_fit}
+use Rattle.step_meaning.proofs.TypedAccesses.{IsPlace, type_of_address, set_registers_fit}
 use Rattle.step_meaning.proofs.TypedAllocation.{new_block_fits}
-use Rattle.step_meaning.proofs.TypedOperators.{OfType, integer_in_range, short_offset}
+use Rattle.step_meaning.proofs.TypedOperators.{integer_in_range, short_offset}
 use Rattle.run_turns.specs.Pending as pending
 use Rattle.run_turns.specs.Turns as turns
 use Rattle.run_turns.specs.Turns.{Configuration}
-use Rattle.run_turns.specs.Typed.{IsInteger, TakesKind, TakesTruth, TakesAddress, TakesObject, IsObject, UpdateFits, UpdatedFits, MoveFits, OperandTakes, AccessTakes, SelectionTakes, DesignationTakes, TakesValue, TakesLvalue, TakesEnd, Takes, StateFits, IsTyped, register_types}
+use Rattle.run_turns.specs.Typed.{TakesKind, TakesTruth, TakesAddress, TakesObject, IsObject, UpdateFits, UpdatedFits, OperandTakes, AccessTakes, SelectionTakes, DesignationTakes, TakesValue, TakesLvalue, StateFits, IsTyped, register_types}
 
 -- ---- pointers
 

@@ -1,5 +1,5 @@
 -- What is still to be done of a run, as a list of pending parts: the continuation of the meaning as data.
-use Rattle.std.specs.Prelude.{ℕ, suc, ◌+◌, Bool, true, false, not, cond, ◌==◌, ℤ, pos, ◌*ℤ◌, List, [], ◌∷◌, take, drop, Option, Some, None, option_map}
+use Rattle.std.specs.Prelude.{ℕ, suc, true, false, not, cond, ◌==◌, pos, ◌*ℤ◌, List, [], ◌∷◌, take, drop, Some, option_map}
 use Rattle.step_meaning.specs.declared.value.IntKind.{IntKind}
 use Rattle.step_meaning.specs.declared.value.CType.{CType}
 use Rattle.step_meaning.specs.declared.value.Value.{Value}
@@ -18,11 +18,9 @@ use Rattle.step_meaning.specs.declared.expr.Place_.{Place_}
 use Rattle.step_meaning.specs.declared.stmt.Stmt.{Stmt, end_of-Stmt, more_of-Stmt}
 use Rattle.step_meaning.specs.declared.stmt.Stmt.TheVariants as st
 use Rattle.step_meaning.specs.declared.program.Core.{Core}
-use Rattle.step_meaning.specs.declared.program.Function.{Function}
 use Rattle.step_meaning.specs.Numbers.{converted, binary_of, unary_of}
 use Rattle.step_meaning.specs.Names.{truth, of_truth, integer, distance, compared}
-use Rattle.step_meaning.specs.Memory.{Memory}
-use Rattle.step_meaning.specs.Steps.{Step, Made, Judged, End, Fault, More, Trace, Stop, Then}
+use Rattle.step_meaning.specs.Steps.{Fault, Trace, Stop, Then}
 use Rattle.step_meaning.specs.State.{State, Registers, Here, Lvalue, At, designated}
 use Rattle.step_meaning.specs.Flow.{resting, Resting, RestingCall, step_by}
 use Rattle.step_meaning.specs.Accesses.{checked, as_int, as_truth, load, store, address_of, object_after, move_elements, updated, answer, put_char, get_char}

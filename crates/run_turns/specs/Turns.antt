@@ -1,5 +1,5 @@
 -- One turn of a machine: what it makes of the pending part on top, as a function of the machine's state.
-use Rattle.std.specs.Prelude.{◌≡◌, ℕ, suc, ◌+◌, ◌%◌, Bool, true, false, not, cond, ◌==◌, ℤ, pos, negsuc, ◌*ℤ◌, neg_ℤ, List, length, [], ◌∷◌, ◌++◌, take, drop, map, Option, Some, None, option_map, Result, Ok, Err}
+use Rattle.std.specs.Prelude.{ℕ, suc, ◌%◌, Bool, true, false, not, cond, ◌==◌, ℤ, pos, negsuc, ◌*ℤ◌, neg_ℤ, List, length, [], ◌∷◌, take, drop, Option, Some, None, Result, Ok, Err}
 use Rattle.step_meaning.specs.declared.value.IntKind.{IntKind}
 use Rattle.step_meaning.specs.declared.value.CType.{CType}
 use Rattle.step_meaning.specs.declared.value.CType.TheVariants as type
@@ -26,9 +26,9 @@ use Rattle.step_meaning.specs.declared.program.Function.{Function}
 use Rattle.step_meaning.specs.Numbers.{converted, low_bits, binary_of, unary_of}
 use Rattle.step_meaning.specs.Names.{truth, of_truth, integer, moved as moved_pointer, distance, compared}
 use Rattle.step_meaning.specs.Memory.{Memory, Block, room_at, reached, stored, with_block, freed}
-use Rattle.step_meaning.specs.Steps.{Step, Made, Judged, End, Fault, Trace, Stop, Then}
-use Rattle.step_meaning.specs.State.{State, Registers, unset_registers, Here, Lvalue, InRegister, At, designated, register_at, set_register}
-use Rattle.step_meaning.specs.Flow.{step_by, RestingCall}
+use Rattle.step_meaning.specs.Steps.{Trace}
+use Rattle.step_meaning.specs.State.{State, unset_registers, Lvalue, InRegister, At, designated, register_at, set_register}
+use Rattle.step_meaning.specs.Flow.{RestingCall}
 use Rattle.step_meaning.specs.Accesses.{brought_to, converted_to, answer}
 use Rattle.step_meaning.specs.Allocation.{block_for, block_pointer}
 use Rattle.step_meaning.specs.Statements.{Completion, Next, Broken, Continued, Returned}

@@ -1,16 +1,15 @@
 -- The values that a machine holds: what was told, those on the stack, the arguments, registers and cells.
-use Rattle.std.specs.Prelude.{◌≡◌, ℕ, zero, ◌<◌, List, length, Option, Some, None}
+use Rattle.std.specs.Prelude.{◌≡◌, ℕ, ◌<◌, List, Option, Some, None}
 use Rattle.std.specs.List.{AllByRecursion}
 use Rattle.step_meaning.specs.declared.value.NameKind.{NameKind}
 use Rattle.step_meaning.specs.declared.value.NameKind.TheVariants as names
-use Rattle.step_meaning.specs.declared.value.Name.{Name}
 use Rattle.step_meaning.specs.declared.value.Value.{Value}
 use Rattle.step_meaning.specs.declared.value.Value.TheVariants as value
 use Rattle.step_meaning.specs.declared.value.Cell.{Cell}
 use Rattle.step_meaning.specs.declared.value.Cell.TheVariants.{Nothing, Holds}
-use Rattle.step_meaning.specs.Memory.{Slot, Block, Frame, HeapBlock, Memory}
+use Rattle.step_meaning.specs.Memory.{Block, Memory}
 use Rattle.step_meaning.specs.State.{Registers, Lvalue, InRegister, At}
-use Rattle.step_meaning.specs.Statements.{Completion, Next, Broken, Continued, Returned}
+use Rattle.step_meaning.specs.Statements.{Completion, Returned}
 use Rattle.run_turns.specs.Pending as pending
 use Rattle.run_turns.specs.Turns.{Configuration}
 
