@@ -24,3 +24,4 @@ pub mod KeptDeclarations
 pub mod KeptStatements
 pub mod ConstantRanges
 pub mod AddressParts
+pub mod InitialConstants
