@@ -25,3 +25,5 @@ pub mod KeptStatements
 pub mod ConstantRanges
 pub mod AddressParts
 pub mod InitialConstants
+pub mod GrowingPrograms
+pub mod GoodVariables
