@@ -27,3 +27,4 @@ pub mod AddressParts
 pub mod InitialConstants
 pub mod GrowingPrograms
 pub mod GoodVariables
+pub mod GoodStructs
