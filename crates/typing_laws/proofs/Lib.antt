@@ -28,3 +28,5 @@ pub mod InitialConstants
 pub mod GrowingPrograms
 pub mod GoodVariables
 pub mod GoodStructs
+pub mod Positions
+pub mod SignatureTypes
