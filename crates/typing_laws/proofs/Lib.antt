@@ -30,3 +30,4 @@ pub mod GoodVariables
 pub mod GoodStructs
 pub mod Positions
 pub mod SignatureTypes
+pub mod FormedFunctions
