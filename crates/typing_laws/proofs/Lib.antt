@@ -31,3 +31,5 @@ pub mod GoodStructs
 pub mod Positions
 pub mod SignatureTypes
 pub mod FormedFunctions
+pub mod GrownFrames
+pub mod GoodFunctions
