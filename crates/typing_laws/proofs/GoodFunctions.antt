@@ -27,7 +27,7 @@ use Rattle.typing_rules.specs.Functions.{is_library, declares_allocation, parame
 use Rattle.typing_rules.specs.Programs.{library}
 use Rattle.typing_laws.specs.SmallTypes.{WhereOk}
 use Rattle.typing_laws.specs.ParsedSyntax.{BodyParsed, StatementsParsed, IsNamed}
-use Rattle.typing_laws.proofs.CheckedValues.{then_holds, then_known, where_ok, where_some}
+use Rattle.typing_laws.proofs.CheckedValues.{then_holds, then_known, weaker, where_ok, where_some}
 use Rattle.typing_laws.proofs.EachOf.{each_append, each_take, each_drop}
 use Rattle.typing_laws.proofs.DeclaredNames.{not_false, none_then, none_left}
 use Rattle.typing_laws.proofs.SmallPrograms.{tags_counted}
@@ -200,3 +200,52 @@ module _ (p : Program) (h : Good p) (n : ℕ) (name : List ℕ) (r : CType) (ps 
       signature done made =
           let grown : Longer (start_frame ps) done.1 = where_ok (λ r. Longer (start_frame ps) r.1) (statements (seen_now p) r false body (start_frame ps)) done made (statements_grow (seen_now p) r body false (start_frame ps)) in
           ap (λ ds. map (λ d. d.ctype) (take (length ps) ds)) grown.whole ∙ first_types ps grown.more
+
+-- ---- declarations
+
+-- where a name has no function yet, it is that of none of the library
+no_allocation : (p : Program) (h : Good p) (name : List ℕ) → function_number p.functions name ≡ None → declares_allocation name false ≡ false
+no_allocation p h name e =
+    let none : AllByRecursion (λ f. bytes_eq name f.name ≡ false) (library ++ h.rest) = subst (AllByRecursion (λ f. bytes_eq name f.name ≡ false)) h.functions (none_passes (λ f. bytes_eq name f.name) p.functions e) in
+    rw (none.1.1.0, none.1.1.1.0) refl
+
+right_result : (p : Program) (r : CType) → no_array r ≡ true → is_wrong_result p false r ≡ false → is_struct r ≡ false → ResultRight p.layouts r
+right_result p r spelled e s = result_right p.layouts r spelled (subst (λ n. not (is_void r || (is_complete (length p.layouts) n r || false)) ≡ false) (tags_counted p) e) s
+
+-- what is made of a declared function with the place that its name has
+abbrev declared_with : Program → Leaf → List Parameter → Option Statements → CType → Option ℕ → Checked Program
+declared_with p t xs body r n =
+    parameters p (declares_allocation (bytes p t) (is_some body)) [] xs
+    >>= (λ ps. declarable_function p t r ps (is_some body) >>= (λ u. defined_as (with_function p (bytes p t) r ps n) (number_or n (length p.functions)) (bytes p t) r ps body))
+
+declared_good : (t : Leaf) (xs : List Parameter) (body : Option Statements) (p : Program) → BodyParsed p.text xs body → (h : Good p) → (r : CType) → no_array r ≡ true → (n : Option ℕ) → function_number p.functions (bytes p t) ≡ n → WhereOk (Goes p) (declared_with p t xs body r n)
+unfolding defined_as prototype_good
+declared_good t xs None p c h r spelled (Some n) e =
+    then_known (Goes p) (parameters p (declares_allocation (bytes p t) false) [] xs) _ (λ ps i.
+    then_known (Goes p) (declarable_function p t r ps false) _ (λ u j. record { good = h; leads = λ q done. done }))
+declared_good t xs None p c h r spelled None e =
+    let none : declares_allocation (bytes p t) false ≡ false = no_allocation p h (bytes p t) e in
+    then_holds (ParametersRight p.layouts) (Goes p) (parameters p (declares_allocation (bytes p t) false) [] xs) _ (subst (λ b. WhereOk (ParametersRight p.layouts) (parameters p b [] xs)) (sym none) (parameters_right p [] xs tt)) (λ ps b.
+    then_holds (λ (u : Unit {0}). MayBeFunction p (bytes p t) r ps false) (Goes p) (declarable_function p t r ps false) _ (declarable_function_holds p t r ps false) (λ u may.
+    prototype_good p h (bytes p t) r ps (right_result p r spelled (subst (λ b. is_wrong_result p b r ≡ false) none may.result) may.no_struct) b))
+declared_good t xs (Some body) p c h r spelled n e =
+    then_known (Goes p) (parameters p false [] xs) _ (λ ps i.
+    let b : ParametersRight p.layouts ps = where_ok (ParametersRight p.layouts) (parameters p false [] xs) ps i (parameters_right p [] xs tt) in
+    let names : HaveNames ps = where_ok HaveNames (parameters p false [] xs) ps i (parameters_named p false [] xs c.0 tt) in
+    then_holds (λ (u : Unit {0}). MayBeFunction p (bytes p t) r ps true) (Goes p) (declarable_function p t r ps true) _ (declarable_function_holds p t r ps true) (λ u may.
+    defined_good n e ps b names may (right_result p r spelled may.result may.no_struct)))
+  where
+    defined_good : (n : Option ℕ) → function_number p.functions (bytes p t) ≡ n → (ps : List Named) → ParametersRight p.layouts ps → HaveNames ps → MayBeFunction p (bytes p t) r ps true → ResultRight p.layouts r
+        → WhereOk (Goes p) (defined_as (with_function p (bytes p t) r ps n) (number_or n (length p.functions)) (bytes p t) r ps (Some body))
+    defined_good (Some n) e ps b names may a = definition_good p h n (bytes p t) r ps (old_place p h (bytes p t) r ps n e may) a b names body c.1
+    defined_good None e ps b names may a =
+        let first : Goes p (with_function p (bytes p t) r ps None) = prototype_good p h (bytes p t) r ps a b in
+        weaker (Goes (with_function p (bytes p t) r ps None)) (Goes p) (defined_as (with_function p (bytes p t) r ps None) (length p.functions) (bytes p t) r ps (Some body))
+        (λ p' k. record { good = k.good; leads = λ q done. first.leads q (k.leads q done) })
+        (definition_good (with_function p (bytes p t) r ps None) first.good (length p.functions) (bytes p t) r ps (new_place p h (bytes p t) r ps) a b names body c.1)
+
+pub function_good : (result : Spelled) (t : Leaf) (xs : List Parameter) (body : Option Statements) (p : Program) → BodyParsed p.text xs body → Good p → WhereOk (Goes p) (function result t xs body p)
+unfolding function
+function_good result t xs body p c h =
+    then_holds (λ r. no_array r ≡ true) (Goes p) (spelled_type (seen_now p) result) _ (spelled_no_array (seen_now p) result) (λ r spelled.
+    declared_good t xs body p c h r spelled (function_number p.functions (bytes p t)) refl)
