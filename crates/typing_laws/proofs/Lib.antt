@@ -33,3 +33,5 @@ pub mod SignatureTypes
 pub mod FormedFunctions
 pub mod GrownFrames
 pub mod GoodFunctions
+pub mod DistinctNames
+pub mod NamedPrograms
