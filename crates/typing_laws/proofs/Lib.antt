@@ -24,3 +24,14 @@ pub mod KeptDeclarations
 pub mod KeptStatements
 pub mod ConstantRanges
 pub mod AddressParts
+pub mod InitialConstants
+pub mod GrowingPrograms
+pub mod GoodVariables
+pub mod GoodStructs
+pub mod Positions
+pub mod SignatureTypes
+pub mod FormedFunctions
+pub mod GrownFrames
+pub mod GoodFunctions
+pub mod DistinctNames
+pub mod NamedPrograms

@@ -110,7 +110,7 @@ with_variable_small p name t c w h = record {
 pub with_values_small : (p : Program) (vs : List Value) → IsSmallProgram p → IsSmallProgram (with_values p vs)
 with_values_small p vs h = record { structs = h.structs; globals = h.globals; results = h.results }
 
-right_of_or : (a b : Bool) → (a || not b) ≡ false → b ≡ true
+pub right_of_or : (a b : Bool) → (a || not b) ≡ false → b ≡ true
 right_of_or false b e = not_false b e
 right_of_or true b e = absurd (cc e)
 

@@ -132,7 +132,7 @@ not_negative n = le-leb 0 n (omega arith)
 no_library_number : (f : ℕ) → (f == 0) ≡ false → (f == 1) ≡ false → is_malloc_number f ≡ false → is_free_number f ≡ false → is_library_number f ≡ false
 no_library_number f a b c d = grind arith
 
-taken_integer : (k : IntKind) (x : Expr) (o : Option CType) → is_taken_by (type.Int k) x o ≡ true → o ≡ Some (type.Int k)
+pub taken_integer : (k : IntKind) (x : Expr) (o : Option CType) → is_taken_by (type.Int k) x o ≡ true → o ≡ Some (type.Int k)
 taken_integer k x None h = false_is_not_true (null_no_integer (is_null_constant x) h)
   where
     null_no_integer : (n : Bool) → (n && false) ≡ true → false ≡ true

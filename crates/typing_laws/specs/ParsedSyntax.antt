@@ -112,12 +112,12 @@ module _ (text : List ℕ) where
   HasMember [] = ⊥
   HasMember (m ∷ ms) = DeclaresSome m.declarators
 
+  abbrev pub HasName : Option Leaf → Type 0
+  HasName None = ⊥
+  HasName (Some t) = IsName t
+
   abbrev pub IsNamed : Parameter → Type 0
-  IsNamed x = named x.name
-    where
-      named : Option Leaf → Type 0
-      named None = ⊥
-      named (Some t) = IsName t
+  IsNamed x = HasName x.name
 
   abbrev pub BodyParsed : List Parameter → Option Statements → Type 0
   BodyParsed xs None = Unit {0}
