@@ -168,6 +168,7 @@ module _ (globals : List Named) (ls more : List Layout) (rules : are_layouts ls 
     where
       sum : (o : ℕ) → o ≡ o + 0
       sum o = omega arith
+
       added : (a o c w all : ℕ) → o + c ≤ w → a + w ≤ all → (a + o) + c ≤ all
       added a o c w all l m = omega arith
 
@@ -188,6 +189,7 @@ module _ (globals : List Named) (ls more : List Layout) (rules : are_layouts ls 
     where
       sum : (o : ℕ) → o ≡ o + 0
       sum o = omega arith
+
       added : (a o c w all : ℕ) → o + c ≤ w → a + w ≤ all → (a + o) + c ≤ all
       added a o c w all l m = omega arith
 

@@ -87,10 +87,11 @@ get_at (y ∷ before) x xs = get_at before x xs
 -- what holds of each element with its number
 pub numbered_from : {A B : Type 0} (Q : B → Type 0) (f : ℕ → A → B) (before xs : List A) → ((i : ℕ) (x : A) → slice_get (before ++ xs) i ≡ Some x → Q (f i x)) → AllByRecursion Q (numbered f (length before) xs)
 numbered_from Q f before [] k = tt
-numbered_from Q f before (x ∷ xs) k =
-    (k (length before) x (get_at before x xs),
-    subst (λ n. AllByRecursion Q (numbered f n xs)) (next before x)
-    (numbered_from Q f (before ++ (x ∷ [])) xs (λ i y e. k i y (subst (λ ys. slice_get ys i ≡ Some y) (append_assoc before (x ∷ []) xs) e))))
+numbered_from Q f before (x ∷ xs) k = (
+  k (length before) x (get_at before x xs),
+  subst (λ n. AllByRecursion Q (numbered f n xs)) (next before x)
+      (numbered_from Q f (before ++ (x ∷ [])) xs (λ i y e. k i y (subst (λ ys. slice_get ys i ≡ Some y) (append_assoc before (x ∷ []) xs) e))),
+)
   where
     next : {A : Type 0} (before : List A) (x : A) → length (before ++ (x ∷ [])) ≡ suc (length before)
     next [] x = refl
@@ -195,10 +196,11 @@ module _ (q : Core) (s : Setting) (p : Program) (right : IsRight p) (done : Comp
 
     module _ (locals more : List Named) (in_view : s.locals ≡ locals ++ more) where
       local_fits : (name : List ℕ) (x : Entry) → IsLocal locals (length p.layouts) x → NameFits q s (view scopes) name x
-      local_fits name (entry.Variable v t) h =
-          (ap (λ k. option_map (λ d. d.ctype) (slice_get (variables s k) v.index)) h.0 ∙ ap (λ ds. option_map (λ d. d.ctype) (slice_get ds v.index)) in_view ∙ type_later locals more v.index t h.1,
-          h.2,
-          ap (λ k. same_kind k names.Register) h.0)
+      local_fits name (entry.Variable v t) h = (
+        ap (λ k. option_map (λ d. d.ctype) (slice_get (variables s k) v.index)) h.0 ∙ ap (λ ds. option_map (λ d. d.ctype) (slice_get ds v.index)) in_view ∙ type_later locals more v.index t h.1,
+        h.2,
+        ap (λ k. same_kind k names.Register) h.0,
+      )
       local_fits name (entry.Function f r ts) h = absurd h
 
   -- what a body sees agrees with the program, where its locals are the first of the function's
@@ -206,10 +208,10 @@ module _ (q : Core) (s : Setting) (p : Program) (right : IsRight p) (done : Comp
   body_agrees f result more h l =
       let g : Environment = seen_in_body (seen_now p) result f in
       let named : AllByRecursion (AllByRecursion (Fits g.scopes)) g.scopes =
-          each_append (AllByRecursion (Fits g.scopes)) f.scopes (file_scope p ∷ [])
-          (each_weaker (AllByRecursion (λ x. IsLocal f.locals (length p.layouts) x.1)) (AllByRecursion (Fits g.scopes)) f.scopes
-          (λ scope k. each_weaker (λ x. IsLocal f.locals (length p.layouts) x.1) (Fits g.scopes) scope (λ x i. local_fits g.scopes f.locals more l x.0 x.1 i) k) h)
-          (file_scope_fits g.scopes, tt) in
+      each_append (AllByRecursion (Fits g.scopes)) f.scopes (file_scope p ∷ [])
+      (each_weaker (AllByRecursion (λ x. IsLocal f.locals (length p.layouts) x.1)) (AllByRecursion (Fits g.scopes)) f.scopes
+      (λ scope k. each_weaker (λ x. IsLocal f.locals (length p.layouts) x.1) (Fits g.scopes) scope (λ x i. local_fits g.scopes f.locals more l x.0 x.1 i) k) h)
+      (file_scope_fits g.scopes, tt) in
       record {
         names = λ name. named_in_scopes (NameFits q s g) name g.scopes named;
         cells = cells_stay q s p.layouts done.more_layouts (layouts ∙ done.layouts);

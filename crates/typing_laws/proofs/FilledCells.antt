@@ -114,6 +114,7 @@ module _ (q : Core) (s : Setting) (g : Environment) (agrees : Agrees q s g) (rul
 
   mutual
     unfolding initialisers.cells
+
     pub cells_fit : (x : Initialiser) → InitialiserParsed g.text x → (t : CType) → keeps_rules g.layouts t ≡ true → WhereOk (Filled t) (initialisers.cells g A given filled t x)
     cells_fit (OneValue x) c t k =
         then_holds (ValueFits q s (length g.layouts)) (Filled t) (full g x) _ (full_fits q s g agrees x c) (λ v h.

@@ -120,8 +120,10 @@ entries_local before (d ∷ ds) ls h =
   where
     next : (before : List Named) (d : Named) → length (before ++ (d ∷ [])) ≡ suc (length before)
     next before d = omega (arith, length-append before (d ∷ []))
+
     here : IsLocal (before ++ (d ∷ ds)) (length ls) (entry.Variable (record { kind = names.Local; index = length before }) d.ctype)
     here = (refl, ap (option_map (λ d. d.ctype)) (get_at before d ds), object_complete ls (length ls) d.ctype h.0.keep)
+
     named : (name : List ℕ) → AllByRecursion (λ x. IsLocal (before ++ (d ∷ ds)) (length ls) x.1) (declared_name name (entry.Variable (record { kind = names.Local; index = length before }) d.ctype))
     named [] = tt
     named (c ∷ cs) = (here, tt)

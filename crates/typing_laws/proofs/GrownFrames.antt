@@ -113,6 +113,7 @@ module _ (g : Environment) (result : CType) where
 
   mutual
     unfolding statement
+
     pub statement_grows : (x : Statement) (loop : Bool) → Grown (statement g result loop x)
     statement_grows Nothing loop = pure_grows core.Empty
     statement_grows (Evaluate x) loop = then_pure (value g result x) core.Eval (value_grows x)

@@ -79,8 +79,10 @@ module _ (q : Core) (s : Setting) (globals later : List Named) (ls more : List L
     where
       zero_sum : (c : ℕ) → 0 ≡ 0 * c + 0
       zero_sum c = omega arith
+
       turned : (u w : CType) → same_type u w ≡ true → same_type w u ≡ true
       turned u w e = subst (λ x. same_type x u ≡ true) (same_type_equal u w e) (same_itself u)
+
       or_cases : {C : Type 0} (a b : Bool) → (a || b) ≡ true → (a ≡ true → C) → (b ≡ true → C) → C
       or_cases true b e h k = h refl
       or_cases false b e h k = k e

@@ -159,9 +159,10 @@ module _ (q : Core) (fn : CoreFunction) (noted : Setting) (p : Program) (right :
   inits_fit loop n t i l before (u ∷ types) (c ∷ cs) w h =
       let cell : slice_get (object_cells q.layouts t) (length before) ≡ Some u = ap (λ ts. slice_get ts (length before)) w ∙ get_at before u types in
       let typed : has_this_type c.0 (cell_type q fn (variable_type own (local_variable (seen_now p) fn.result n)) (length before)) ≡ true = rw (l, cell, h.0.0, same_itself u) refl in
-      let taken : is_taken_by c.0 c.1 (type_of q own c.1) ≡ true = subst (λ t. is_taken_by t c.1 (type_of q own c.1) ≡ true) (sym h.0.0) h.0.1 in
-      (record { rules = and_true i (and_true typed taken); bare = refl },
-      subst (λ o. AllFit loop (init_statements (seen_now p) fn.result n o cs)) (next before u) (inits_fit loop n t i l (before ++ (u ∷ [])) types cs (w ∙ sym (append_assoc before (u ∷ []) types)) h.1))
+      let taken : is_taken_by c.0 c.1 (type_of q own c.1) ≡ true = subst (λ t. is_taken_by t c.1 (type_of q own c.1) ≡ true) (sym h.0.0) h.0.1 in (
+        record { rules = and_true i (and_true typed taken); bare = refl },
+        subst (λ o. AllFit loop (init_statements (seen_now p) fn.result n o cs)) (next before u) (inits_fit loop n t i l (before ++ (u ∷ [])) types cs (w ∙ sym (append_assoc before (u ∷ []) types)) h.1),
+      )
     where
       next : (before : List CType) (u : CType) → length (before ++ (u ∷ [])) ≡ suc (length before)
       next before u = omega (arith, length-append before (u ∷ []))

@@ -192,6 +192,7 @@ module _ (q : Core) (fn : CoreFunction) (noted : Setting) (p : Program) (right :
 
   mutual
     unfolding statement
+
     pub statement_keeps : (x : Statement) → StatementParsed p.text x → (loop : Bool) → K (F loop) (statement (seen_now p) fn.result loop x)
     statement_keeps NullStatement c loop = keeps_pure p fn Nothing (F loop) core.Empty tt (empty_fits loop)
     statement_keeps (Evaluate x) c loop = then_pure HasType (F loop) (value (seen_now p) fn.result x) core.Eval (value_keeps x c) (λ e h. record { rules = h; bare = refl })

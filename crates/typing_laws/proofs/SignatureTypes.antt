@@ -156,11 +156,13 @@ parameter_right p ps x h =
     let t : CType = layered ls base in
     declared_then Q (seen_now p) (place_of_parameter x) (is_repeated ps name) (is_wrong_parameter (seen_now p) false t) true (is_reserved (seen_now p) name) (adjusted t) _ (λ may.
     let complete : is_complete (length p.layouts) (length p.layouts) (adjusted t) ≡ true = subst (λ n. is_complete (length p.layouts) n (adjusted t) ≡ true) (tags_counted p) (or_false (is_complete_in (seen_now p) (adjusted t)) may.right) in
-    each_append (ParameterRight p.layouts) ps _ h
-    (record {
-      scalar = adjusted_scalar (length p.layouts) (length p.layouts) t complete may.value;
-      keep = declared_keeps p.layouts (length p.layouts) (adjusted t) (adjusted_elements t (layered_elements ls base sizes b)) complete may.small;
-    }, tt))))
+    each_append (ParameterRight p.layouts) ps _ h (
+      record {
+        scalar = adjusted_scalar (length p.layouts) (length p.layouts) t complete may.value;
+        keep = declared_keeps p.layouts (length p.layouts) (adjusted t) (adjusted_elements t (layered_elements ls base sizes b)) complete may.small;
+      },
+      tt,
+    ))))
   where
     or_false : (b : Bool) → not (b || false) ≡ false → b ≡ true
     or_false true e = refl
