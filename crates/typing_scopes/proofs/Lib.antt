@@ -4,3 +4,4 @@ pub mod Scopes
 pub mod FileScopes
 pub mod Entries
 pub mod LastBlock
+pub mod WantOfMemory

@@ -50,7 +50,8 @@ impl<'t> Known<'t> {
 
     /// Notes that the function with the name has a body somewhere in the text.
     pub fn add_body(&mut self, name: &'t [u8]) -> Result<(), TypeFault>
-        ensures { OnOk result (state self.new ≡ record (state self.old) { program = record (program self.old) { bodies = (program self.old).bodies ++ name.now ∷ [] } }) }
+        ensures added { OnOk result (state self.new ≡ record (state self.old) { program = record (program self.old) { bodies = (program self.old).bodies ++ name.now ∷ [] } }) }
+        ensures memory { Gives (Ok tt) result }
     {
         self.bodies.push(name)
     }
@@ -63,7 +64,8 @@ impl<'t> Known<'t> {
         ctype: TypePart,
     ) -> Result<(), TypeFault>
         requires { is_known (program self.old) name.now ≡ false }
-        ensures { OnOk result (state self.new ≡ record (state self.old) { program = with_variable (program self.old) name.now ctype }) }
+        ensures added { OnOk result (state self.new ≡ record (state self.old) { program = with_variable (program self.old) name.now ctype }) }
+        ensures memory { Gives (Ok tt) result }
     {
         let declared = declared(alloc, name, ctype)?;
         self.globals.push(name, declared)
@@ -71,7 +73,8 @@ impl<'t> Known<'t> {
 
     /// What the cells of the next variable of file scope start with.
     pub fn add_values(&mut self, values: Items<Value>) -> Result<(), TypeFault>
-        ensures { OnOk result (state self.new ≡ record (state self.old) { program = with_values (program self.old) values }) }
+        ensures added { OnOk result (state self.new ≡ record (state self.old) { program = with_values (program self.old) values }) }
+        ensures memory { Gives (Ok tt) result }
     {
         self.initial.push(values)?;
         Ok(())
@@ -81,7 +84,8 @@ impl<'t> Known<'t> {
     pub fn add_function(&mut self, name: &'t [u8], function: Function) -> Result<(), TypeFault>
         requires named { function.name ≡ name.now }
         requires new { function_number (program self.old).functions name.now ≡ None }
-        ensures { OnOk result (state self.new ≡ record (state self.old) { program = record (program self.old) { functions = (program self.old).functions ++ function ∷ [] } }) }
+        ensures added { OnOk result (state self.new ≡ record (state self.old) { program = record (program self.old) { functions = (program self.old).functions ++ function ∷ [] } }) }
+        ensures memory { Gives (Ok tt) result }
     {
         self.functions.push(name, function)
     }
@@ -100,7 +104,8 @@ impl<'t> Known<'t> {
     /// The tag of a struct, known from here on. The struct is complete only later.
     pub fn open_struct(&mut self, tag: &'t [u8]) -> Result<(), TypeFault>
         requires { rules.contains self.old.tags tag.now ≡ false }
-        ensures { OnOk result (state self.new ≡ record (state self.old) { tags = self.old.tags ++ tag.now ∷ [] }) }
+        ensures added { OnOk result (state self.new ≡ record (state self.old) { tags = self.old.tags ++ tag.now ∷ [] }) }
+        ensures memory { Gives (Ok tt) result }
     {
         self.tags.push(tag)
     }
@@ -112,7 +117,8 @@ impl<'t> Known<'t> {
         tag: &[u8],
         members: Items<Declared>,
     ) -> Result<(), TypeFault>
-        ensures { OnOk result (state self.new ≡ record (state self.old) { program = with_layout (program self.old) tag.now members }) }
+        ensures added { OnOk result (state self.new ≡ record (state self.old) { program = with_layout (program self.old) tag.now members }) }
+        ensures memory { Gives (Ok tt) result }
     {
         let tag = text_of(alloc, tag)?;
         self.layouts.push(Layout { tag, members })?;
@@ -123,7 +129,8 @@ impl<'t> Known<'t> {
 
     /// A function begins, whose parameters are to come: no local is known, and its scope is open.
     pub fn start_function(&mut self, alloc: Global) -> Result<(), TypeFault>
-        ensures { OnOk result (state self.new ≡ record (state self.old) { frame = first_frame }) }
+        ensures added { OnOk result (state self.new ≡ record (state self.old) { frame = first_frame }) }
+        ensures memory { Gives (Ok tt) result }
     {
         self.locals = Items::new(alloc);
         self.blocks.clear();
@@ -141,7 +148,8 @@ impl<'t> Known<'t> {
 
     /// A block begins.
     pub fn open_block(&mut self, alloc: Global) -> Result<(), TypeFault>
-        ensures { OnOk result (state self.new ≡ record (state self.old) { frame = opened (frame self.old) }) }
+        ensures added { OnOk result (state self.new ≡ record (state self.old) { frame = opened (frame self.old) }) }
+        ensures memory { Gives (Ok tt) result }
     {
         match self.blocks.push(Block::new(alloc)) {
             Ok(()) => Ok(()),
@@ -160,7 +168,8 @@ impl<'t> Known<'t> {
     fn declare_in_block(&mut self, name: &'t [u8], local: BlockLocal) -> Result<(), TypeFault>
         requires open { 0 < length self.old.blocks.items }
         requires new { is_some (rules.found_in (innermost (frame self.old).scopes) name.now) ≡ false }
-        ensures { OnOk result (state self.new ≡ record (state self.old) { frame = record (frame self.old) { scopes = with_name name.now (local_variable local.index) local.ctype (frame self.old).scopes } }) }
+        ensures added { OnOk result (state self.new ≡ record (state self.old) { frame = record (frame self.old) { scopes = with_name name.now (local_variable local.index) local.ctype (frame self.old).scopes } }) }
+        ensures memory { Gives (Ok tt) result }
     {
         let last = self.blocks.len() - 1;
         self.blocks[last].push(name, local)
@@ -174,7 +183,8 @@ impl<'t> Known<'t> {
         local: BlockLocal,
     ) -> Result<(), TypeFault>
         requires { length self.old.blocks.items ≡ 0 }
-        ensures { OnOk result (state self.new ≡ record (state self.old) { frame = record (frame self.old) { scopes = with_name name.now (local_variable local.index) local.ctype (frame self.old).scopes } }) }
+        ensures added { OnOk result (state self.new ≡ record (state self.old) { frame = record (frame self.old) { scopes = with_name name.now (local_variable local.index) local.ctype (frame self.old).scopes } }) }
+        ensures memory { Gives (Ok tt) result }
     {
         self.open_block(alloc)?;
         self.declare_in_block(name, local)
@@ -183,7 +193,8 @@ impl<'t> Known<'t> {
     /// A name of the innermost block, or of a first block where there is none.
     fn declare(&mut self, alloc: Global, name: &'t [u8], local: BlockLocal) -> Result<(), TypeFault>
         requires { is_some (rules.found_in (innermost (frame self.old).scopes) name.now) ≡ false }
-        ensures { OnOk result (state self.new ≡ record (state self.old) { frame = record (frame self.old) { scopes = with_name name.now (local_variable local.index) local.ctype (frame self.old).scopes } }) }
+        ensures added { OnOk result (state self.new ≡ record (state self.old) { frame = record (frame self.old) { scopes = with_name name.now (local_variable local.index) local.ctype (frame self.old).scopes } }) }
+        ensures memory { Gives (Ok tt) result }
     {
         if self.blocks.is_empty() {
             self.declare_in_first(alloc, name, local)
@@ -194,7 +205,7 @@ impl<'t> Known<'t> {
 
     /// The number of the next local, and one more local without a name in any scope.
     fn next_local(&mut self, alloc: Global, name: &[u8], ctype: TypePart) -> Result<u32, TypeFault>
-        ensures number { IfOk result (λ n. n ≡ length (frame self.old).locals) }
+        ensures number { Gives (Ok (length (frame self.old).locals)) result }
         ensures added { OnOk result (state self.new ≡ record (state self.old) { frame = record (frame self.old) { locals = (frame self.old).locals ++ named name.now ctype ∷ [] } }) }
     {
         let number = self.locals.len();
@@ -214,7 +225,7 @@ impl<'t> Known<'t> {
         ctype: TypePart,
     ) -> Result<u32, TypeFault>
         requires { is_some (rules.found_in (innermost (frame self.old).scopes) name.now) ≡ false }
-        ensures number { IfOk result (λ n. n ≡ length (frame self.old).locals) }
+        ensures number { Gives (Ok (length (frame self.old).locals)) result }
         ensures added { OnOk result (state self.new ≡ record (state self.old) { frame = with_local name.now ctype (frame self.old) }) }
     {
         let again = copied(alloc, ctype.get())?;
@@ -238,7 +249,8 @@ impl<'t> Known<'t> {
         ctype: TypePart,
     ) -> Result<(), TypeFault>
         requires { is_some (rules.found_in (innermost (frame self.old).scopes) name.now) ≡ false }
-        ensures { OnOk result (state self.new ≡ record (state self.old) { frame = with_parameter name.now ctype (frame self.old) }) }
+        ensures added { OnOk result (state self.new ≡ record (state self.old) { frame = with_parameter name.now ctype (frame self.old) }) }
+        ensures memory { Gives (Ok tt) result }
     {
         if name.is_empty() {
             self.next_local(alloc, name, ctype)?;

@@ -7,4 +7,4 @@ use Rattle.typing_scopes.proofs.known.Known.declare_in_first.Goals as goal
 pub declare_in_block-requires-clause-new : goal.declare_in_block-requires-clause-new
 declare_in_block-requires-clause-new c =
     let q = c.args.name.now in
-    ap (λ s. is_some (found_in (innermost s.frame.scopes) q)) c.in_ok-open_block.ensures ∙ ap is_some (found_in-none q)
+    ap (λ s. is_some (found_in (innermost s.frame.scopes) q)) c.in_ok-open_block.ensures.added ∙ ap is_some (found_in-none q)
