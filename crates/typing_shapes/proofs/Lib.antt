@@ -1,0 +1,4 @@
+pub mod Depths
+pub mod LastLinks
+pub mod FirstTokens
+pub mod Suffixes
