@@ -1,7 +1,7 @@
 //! Parts of trees that other crates hold while they make others. A tree that is let go is proved to be let go in the crate
 //! that does so, node by node; a part is let go here, once.
 
-ghost use Rattle.std.specs.Prelude.{◌≡◌, [], ◌∷◌, ◌++◌, IfOk, OnOk};
+ghost use Rattle.std.specs.Prelude.{◌≡◌, [], ◌∷◌, ◌++◌, length, slice_get, IfOk, OnOk};
 
 use crate::expr::{Expr, Place_};
 use crate::predicate::{Predicate, Term};
@@ -97,6 +97,25 @@ impl ExprsPart {
         ensures { OnOk result (self.new ≡ self.old ++ part ∷ []) }
     {
         self.inner.push(part.into_boxed().into_inner())
+    }
+
+    /// How many they are.
+    pub fn len(&self) -> usize
+        ensures { result ≡ length self.now }
+    {
+        self.inner.len()
+    }
+
+    /// The first of them. An error is want of memory.
+    pub fn into_first(self, alloc: Global) -> Result<Option<ExprPart>, AllocError>
+        ensures { IfOk result (λ first. first ≡ slice_get self 0) }
+    {
+        let mut items = self.into_items();
+        if items.is_empty() {
+            return Ok(None);
+        }
+        let first = ExprPart::new(alloc, items.remove(0))?;
+        Ok(Some(first))
     }
 
     /// What it holds, as a node's list.

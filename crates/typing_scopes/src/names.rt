@@ -34,6 +34,13 @@ impl<'t> Names<'t> {
         }
     }
 
+    /// How many names there are.
+    pub fn len(&self) -> usize
+        ensures { result ≡ length self.now }
+    {
+        self.set.len()
+    }
+
     /// The number of the name.
     pub fn number(&self, name: &[u8]) -> Option<u32>
         ensures number { result ≡ position (bytes_eq name.now) self.now }
