@@ -33,5 +33,7 @@ pub mod SignatureTypes
 pub mod FormedFunctions
 pub mod GrownFrames
 pub mod GoodFunctions
+pub mod FunctionSteps
 pub mod DistinctNames
 pub mod NamedPrograms
+pub mod DefinedPrograms

@@ -34,7 +34,7 @@ use Rattle.typing_laws.proofs.DeclaredNames.{declared_then, none_then, none_left
 use Rattle.typing_laws.proofs.Positions.{FoundAt, found_at, none_passes, any_none, none_any}
 use Rattle.typing_laws.proofs.DistinctNames.{differ_turned, IsNew, new_append, distinct_insert, unknown, new_of_entries, function_names, replaced_names, each_name}
 use Rattle.typing_laws.proofs.Completion.{bytes_same, get_at}
-use Rattle.typing_laws.proofs.GoodFunctions.{MayBeFunction, declarable_function_holds}
+use Rattle.typing_laws.proofs.FunctionSteps.{function_steps}
 
 pub record HasNames (p : Program) : Type 0 where
   pub globals : AllByRecursion (λ d. IsTrue (is_name d.name)) p.globals
@@ -191,3 +191,11 @@ replaced_named p n f g e s h =
       distinct_tags = h.distinct_tags;
       members = h.members;
     }
+
+function_named : (result : Spelled) (t : Leaf) (xs : List Parameter) (body : Option Statements) (p : Program) → IsName p.text t → HasNames p → WhereOk HasNames (function result t xs body p)
+function_named result t xs body p i h =
+    function_steps HasNames result t xs p body (record {
+      same = λ e. h;
+      more = λ f r ps d may e. prototype_named p (bytes p t) r ps f d.name i may.no_variable e h;
+      instead = λ n f g r ps there named d may e. replaced_named p n f g there (d.name ∙ sym named) h;
+    })
