@@ -1,39 +1,33 @@
 -- A program up to some item, and the core that it becomes: what is declared stays in its place, and each function whose name has a body in the text has one.
-use Rattle.std.proofs.Common.{◌≡◌, ℕ, zero, suc, ◌+◌, ◌<◌, ◌≤◌, Bool, true, false, ◌&&◌, not, List, [], ◌∷◌, ◌++◌, length, Option, Some, None, refl, sym, ap, subst, ◌∙◌, arith, append_assoc}
-use Rattle.std.specs.Prelude.{◌==◌, slice_get, codes, option_map, is_some, if◌then◌else◌}
+use Rattle.std.proofs.Common.{◌≡◌, ℕ, zero, suc, Bool, true, false, List, [], ◌∷◌, ◌++◌, length, Option, Some, None, refl, sym, ap, subst, ◌∙◌, append_assoc}
+use Rattle.std.specs.Prelude.{◌==◌, slice_get, codes, option_map}
 use Rattle.std.specs.List.{AllByRecursion}
 use Rattle.std.specs.Str.{bytes_eq}
 use Rattle.std.proofs.lemmas.Bool.{eqb-true}
 use Rattle.std.proofs.lemmas.Slice.Eq.{bytes_eq-Decides}
 use Rattle.step_meaning.specs.declared.value.CType.{CType}
-use Rattle.step_meaning.specs.declared.value.CType.TheVariants as type
-use Rattle.step_meaning.specs.declared.value.NameKind.{NameKind}
 use Rattle.step_meaning.specs.declared.value.NameKind.TheVariants as names
-use Rattle.step_meaning.specs.declared.expr.Variable.{Variable}
 use Rattle.step_meaning.specs.declared.program.Core.{Core}
 use Rattle.step_meaning.specs.declared.program.Declared.{Declared as Named}
 use Rattle.step_meaning.specs.declared.program.Function.{Function as CoreFunction}
 use Rattle.step_meaning.specs.declared.program.Layout.{Layout}
-use Rattle.step_meaning.specs.Settings.{Setting, variables, variable_type}
+use Rattle.step_meaning.specs.Settings.{Setting, variables}
 use Rattle.step_meaning.specs.Names.{same_kind}
 use Rattle.step_meaning.specs.TypeRules.{keeps_rules, are_layouts}
 use Rattle.step_meaning.specs.ExpressionTypes.{parameter_types, has_body}
-use Rattle.step_meaning.specs.ExpressionTypes as core_types
 use Rattle.step_meaning.specs.Library.{int}
-use Rattle.step_meaning.proofs.Ranges.{false_is_not_true}
 use Rattle.step_meaning.proofs.TypedMemory.{WhereSome, get_fits}
 use Rattle.typing_rules.specs.declared.operand.Entry.{Entry}
 use Rattle.typing_rules.specs.declared.operand.Entry.TheVariants as entry
 use Rattle.typing_rules.specs.Environment.{Environment, Scope, contains, found_in, or_else, found}
 use Rattle.typing_rules.specs.Declarations.{is_complete}
 use Rattle.typing_rules.specs.Statements.{Frame, seen as seen_in_body}
-use Rattle.typing_rules.specs.FileScope.{Program, numbered, variable_entry, function_entry, file_scope, tags, seen_now}
-use Rattle.typing_rules.specs.Expressions.{is_library_number}
-use Rattle.typing_laws.proofs.CheckedValues.{where_some, some_known, if_holds}
+use Rattle.typing_rules.specs.FileScope.{Program, numbered, variable_entry, function_entry, file_scope, seen_now}
+use Rattle.typing_laws.proofs.CheckedValues.{where_some, if_holds}
 use Rattle.typing_laws.proofs.EachOf.{each_append, each_weaker}
 use Rattle.typing_laws.proofs.SmallPrograms.{tags_counted}
 use Rattle.typing_laws.proofs.TypedValues.{is_value_type}
-use Rattle.typing_laws.proofs.TypedExpressions.{FunctionFits, EntryFits, NameFits, Agrees}
+use Rattle.typing_laws.proofs.TypedExpressions.{FunctionFits, NameFits, Agrees}
 use Rattle.typing_laws.proofs.LaterStructs.{object_complete, get_some, cells_stay, allocation_stays, members_stay}
 
 -- ---- what a program keeps, whatever comes after it
@@ -87,10 +81,11 @@ get_at (y ∷ before) x xs = get_at before x xs
 -- what holds of each element with its number
 pub numbered_from : {A B : Type 0} (Q : B → Type 0) (f : ℕ → A → B) (before xs : List A) → ((i : ℕ) (x : A) → slice_get (before ++ xs) i ≡ Some x → Q (f i x)) → AllByRecursion Q (numbered f (length before) xs)
 numbered_from Q f before [] k = tt
-numbered_from Q f before (x ∷ xs) k =
-    (k (length before) x (get_at before x xs),
-    subst (λ n. AllByRecursion Q (numbered f n xs)) (next before x)
-    (numbered_from Q f (before ++ (x ∷ [])) xs (λ i y e. k i y (subst (λ ys. slice_get ys i ≡ Some y) (append_assoc before (x ∷ []) xs) e))))
+numbered_from Q f before (x ∷ xs) k = (
+  k (length before) x (get_at before x xs),
+  subst (λ n. AllByRecursion Q (numbered f n xs)) (next before x)
+      (numbered_from Q f (before ++ (x ∷ [])) xs (λ i y e. k i y (subst (λ ys. slice_get ys i ≡ Some y) (append_assoc before (x ∷ []) xs) e))),
+)
   where
     next : {A : Type 0} (before : List A) (x : A) → length (before ++ (x ∷ [])) ≡ suc (length before)
     next [] x = refl
@@ -195,10 +190,11 @@ module _ (q : Core) (s : Setting) (p : Program) (right : IsRight p) (done : Comp
 
     module _ (locals more : List Named) (in_view : s.locals ≡ locals ++ more) where
       local_fits : (name : List ℕ) (x : Entry) → IsLocal locals (length p.layouts) x → NameFits q s (view scopes) name x
-      local_fits name (entry.Variable v t) h =
-          (ap (λ k. option_map (λ d. d.ctype) (slice_get (variables s k) v.index)) h.0 ∙ ap (λ ds. option_map (λ d. d.ctype) (slice_get ds v.index)) in_view ∙ type_later locals more v.index t h.1,
-          h.2,
-          ap (λ k. same_kind k names.Register) h.0)
+      local_fits name (entry.Variable v t) h = (
+        ap (λ k. option_map (λ d. d.ctype) (slice_get (variables s k) v.index)) h.0 ∙ ap (λ ds. option_map (λ d. d.ctype) (slice_get ds v.index)) in_view ∙ type_later locals more v.index t h.1,
+        h.2,
+        ap (λ k. same_kind k names.Register) h.0,
+      )
       local_fits name (entry.Function f r ts) h = absurd h
 
   -- what a body sees agrees with the program, where its locals are the first of the function's
@@ -206,10 +202,10 @@ module _ (q : Core) (s : Setting) (p : Program) (right : IsRight p) (done : Comp
   body_agrees f result more h l =
       let g : Environment = seen_in_body (seen_now p) result f in
       let named : AllByRecursion (AllByRecursion (Fits g.scopes)) g.scopes =
-          each_append (AllByRecursion (Fits g.scopes)) f.scopes (file_scope p ∷ [])
-          (each_weaker (AllByRecursion (λ x. IsLocal f.locals (length p.layouts) x.1)) (AllByRecursion (Fits g.scopes)) f.scopes
-          (λ scope k. each_weaker (λ x. IsLocal f.locals (length p.layouts) x.1) (Fits g.scopes) scope (λ x i. local_fits g.scopes f.locals more l x.0 x.1 i) k) h)
-          (file_scope_fits g.scopes, tt) in
+      each_append (AllByRecursion (Fits g.scopes)) f.scopes (file_scope p ∷ [])
+      (each_weaker (AllByRecursion (λ x. IsLocal f.locals (length p.layouts) x.1)) (AllByRecursion (Fits g.scopes)) f.scopes
+      (λ scope k. each_weaker (λ x. IsLocal f.locals (length p.layouts) x.1) (Fits g.scopes) scope (λ x i. local_fits g.scopes f.locals more l x.0 x.1 i) k) h)
+      (file_scope_fits g.scopes, tt) in
       record {
         names = λ name. named_in_scopes (NameFits q s g) name g.scopes named;
         cells = cells_stay q s p.layouts done.more_layouts (layouts ∙ done.layouts);

@@ -1,11 +1,9 @@
 -- Each function whose name has a body so far has it, and a function with the name `main` is `int main(void)`.
-use Rattle.std.proofs.Common.{◌≡◌, ℕ, zero, suc, Bool, true, false, ◌&&◌, ◌||◌, not, List, [], ◌∷◌, ◌++◌, map, take, drop, length, Option, Some, None, Ok, Err, refl, sym, ap, subst, ◌∙◌}
+use Rattle.std.proofs.Common.{◌≡◌, ℕ, zero, suc, Bool, true, false, ◌&&◌, ◌||◌, not, List, [], ◌∷◌, ◌++◌, take, length, Option, Some, None, refl, sym, ap, subst, ◌∙◌}
 use Rattle.std.specs.Prelude.{slice_get, codes, is_some}
 use Rattle.std.specs.List.{list_any, AllByRecursion}
 use Rattle.std.specs.Str.{bytes_eq}
 use Rattle.c_words.specs.declared.word.Leaf.{Leaf}
-use Rattle.c_words.specs.declared.word.Mode.{Mode}
-use Rattle.c_words.specs.Words as words
 use Rattle.step_meaning.specs.declared.value.CType.{CType}
 use Rattle.step_meaning.specs.declared.program.Declared.{Declared as Named}
 use Rattle.step_meaning.specs.declared.program.Function.{Function as CoreFunction}
@@ -16,7 +14,6 @@ use Rattle.step_meaning.specs.Library.{int}
 use Rattle.step_meaning.specs.WellFormed.{declared_names}
 use Rattle.step_meaning.proofs.Ranges.{left_of_and, right_of_and, false_is_not_true}
 use Rattle.step_meaning.proofs.SameTypes.{same_type_equal}
-use Rattle.typing_rules.specs.Checked.{Checked}
 use Rattle.typing_rules.specs.Syntax.{Spelled, Parameter, Statements}
 use Rattle.typing_rules.specs.Environment.{contains}
 use Rattle.typing_rules.specs.FileScope.{Program, bytes}
@@ -27,7 +24,6 @@ use Rattle.typing_laws.proofs.DeclaredNames.{not_false}
 use Rattle.typing_laws.proofs.Positions.{false_or_left, false_or_right}
 use Rattle.typing_laws.proofs.Completion.{bytes_same, bytes_itself}
 use Rattle.typing_laws.proofs.FormedFunctions.{types_equal}
-use Rattle.typing_laws.proofs.GoodFunctions.{MayBeFunction}
 use Rattle.typing_laws.proofs.FunctionSteps.{IsDeclared, function_steps}
 use Rattle.typing_laws.proofs.DistinctNames.{differ_turned, IsNew, distinct_last, function_names, replaced_names}
 use Rattle.typing_laws.proofs.NamedPrograms.{HasNames, no_function}
@@ -95,6 +91,7 @@ main_right f name r ps defined d other e =
     by : (a b : Bool) → a ≡ true → (a && not b) ≡ false → b ≡ true
     by true b e h = not_false b h
     by false b e h = false_is_not_true e
+
     empty : (ps : List Named) → types_of ps ≡ [] → length ps ≡ 0
     empty [] e = refl
     empty (d ∷ ds) e = absurd (cc e)
@@ -144,6 +141,7 @@ instead_bodies name done zero f g (x ∷ fs) d e s b h =
   where
     same : Some x ≡ Some f → x ≡ f
     same e = cc
+
     not_true : (b : Bool) → not b ≡ true → b ≡ false
     not_true false h = refl
     not_true true h = absurd (cc h)
@@ -154,6 +152,7 @@ instead_bodies name done (suc n) f g (x ∷ fs) d e s b h =
     not_true : (b : Bool) → not b ≡ true → b ≡ false
     not_true false h = refl
     not_true true h = absurd (cc h)
+
     at : (fs : List CoreFunction) (n : ℕ) → slice_get fs n ≡ Some f → list_any (bytes_eq x.name) (function_names fs) ≡ false → bytes_eq x.name f.name ≡ false
     at [] n e h = absurd (no e)
       where

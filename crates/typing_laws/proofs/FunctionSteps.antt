@@ -1,5 +1,5 @@
 -- What the declaration of a function does to the functions of a program: nothing, one more, or one in place of its prototype.
-use Rattle.std.proofs.Common.{◌≡◌, ℕ, zero, suc, Bool, true, false, ◌&&◌, ◌||◌, not, List, [], ◌∷◌, ◌++◌, map, take, drop, length, Option, Some, None, Ok, Err, refl, sym, ap, subst, ◌∙◌}
+use Rattle.std.proofs.Common.{◌≡◌, ℕ, Bool, true, false, List, [], ◌∷◌, ◌++◌, map, take, length, Option, Some, None, Ok, refl, sym, ap, subst, ◌∙◌}
 use Rattle.std.specs.Prelude.{slice_get, is_some}
 use Rattle.std.specs.Str.{bytes_eq}
 use Rattle.c_words.specs.declared.word.Leaf.{Leaf}
@@ -8,7 +8,6 @@ use Rattle.step_meaning.specs.declared.stmt.Stmt.{Stmt}
 use Rattle.step_meaning.specs.declared.program.Declared.{Declared as Named}
 use Rattle.step_meaning.specs.declared.program.Function.{Function as CoreFunction}
 use Rattle.step_meaning.specs.ExpressionTypes.{parameter_types, has_body}
-use Rattle.typing_rules.specs.Checked.{Checked, ◌>>=◌}
 use Rattle.typing_rules.specs.Syntax.{Spelled, Parameter, Statements}
 use Rattle.typing_rules.specs.Environment.{spelled_type}
 use Rattle.typing_rules.specs.Statements.{Frame, statements}

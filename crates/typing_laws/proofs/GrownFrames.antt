@@ -1,5 +1,5 @@
 -- Declarations and statements add locals at the end alone.
-use Rattle.std.proofs.Common.{◌≡◌, ℕ, Bool, true, false, not, List, [], ◌∷◌, ◌++◌, length, Option, Some, None, Ok, Err, refl, sym, ap, ◌∙◌, append_assoc, append-nil}
+use Rattle.std.proofs.Common.{◌≡◌, ℕ, Bool, true, false, not, List, [], ◌∷◌, ◌++◌, Option, Some, None, refl, sym, ap, ◌∙◌, append_assoc, append-nil}
 use Rattle.std.specs.Prelude.{is_some}
 use Rattle.c_words.specs.declared.word.Leaf.{Leaf}
 use Rattle.step_meaning.specs.declared.value.CType.{CType}
@@ -113,6 +113,7 @@ module _ (g : Environment) (result : CType) where
 
   mutual
     unfolding statement
+
     pub statement_grows : (x : Statement) (loop : Bool) → Grown (statement g result loop x)
     statement_grows Nothing loop = pure_grows core.Empty
     statement_grows (Evaluate x) loop = then_pure (value g result x) core.Eval (value_grows x)

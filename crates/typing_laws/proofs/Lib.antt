@@ -37,3 +37,5 @@ pub mod FunctionSteps
 pub mod DistinctNames
 pub mod NamedPrograms
 pub mod DefinedPrograms
+pub mod WholePrograms
+pub mod FormedCores

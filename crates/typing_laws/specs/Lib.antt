@@ -1,3 +1,4 @@
 pub mod SmallTypes
 pub mod SmallPrograms
 pub mod ParsedSyntax
+pub mod Soundness

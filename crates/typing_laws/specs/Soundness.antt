@@ -1,0 +1,12 @@
+-- What elaboration promises of the cores that it gives.
+use Rattle.std.specs.Prelude.{◌≡◌, ℕ, List, Ok}
+use Rattle.c_words.specs.declared.word.Mode.{Mode}
+use Rattle.step_meaning.specs.declared.program.Core.{Core}
+use Rattle.step_meaning.specs.WellFormed.{IsWellFormed}
+use Rattle.typing_rules.specs.Syntax.{Item}
+use Rattle.typing_rules.specs.Programs.{elaborated}
+use Rattle.typing_laws.specs.ParsedSyntax.{ItemsParsed}
+
+-- the core of a parsed text that breaks no rule is well formed
+abbrev pub CoresAreFormed : Type 0
+CoresAreFormed = (m : Mode) (text : List ℕ) (all : List Item) (q : Core) → ItemsParsed text all → elaborated m text all ≡ Ok q → IsWellFormed q
