@@ -39,3 +39,4 @@ pub mod NamedPrograms
 pub mod DefinedPrograms
 pub mod WholePrograms
 pub mod FormedCores
+pub mod PlainCores
