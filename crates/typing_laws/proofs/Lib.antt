@@ -40,3 +40,5 @@ pub mod DefinedPrograms
 pub mod WholePrograms
 pub mod FormedCores
 pub mod PlainCores
+pub mod PlainOperators
+pub mod PlainObjects

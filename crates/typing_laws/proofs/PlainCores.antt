@@ -152,7 +152,7 @@ module _ (m : ℕ) where
 
 -- ---- values
 
-shallow_integer : (n : ℕ) → 2 ≤ 132 + n
+pub shallow_integer : (n : ℕ) → 2 ≤ 132 + n
 shallow_integer n = omega arith
 
 pub loaded_plain : (n m : ℕ) (first : Place) (p : Place_) (t : CType) → PlainAt n m p t → WhereOk (PlainValue n m) (loaded first p t)
@@ -199,7 +199,7 @@ module _ (ls : List Layout) (n m : ℕ) (positive : 1 ≤ m) (first : Place) (a 
   abbrev Integer : Expr → Type 0
   Integer x = PlainCore m x
 
-  computed_plain : PlainValue n m b → (how : Operation) → is_logical how ≡ false → Makes how
+  pub computed_plain : PlainValue n m b → (how : Operation) → is_logical how ≡ false → Makes how
   unfolding computed shape-the_row-Expr-0 hidden-the_row-Expr-0 hidden
   computed_plain j (Arithmetic o k) i = record { core = two_parts m (brought k a) (brought k b) (e.Binary o k (brought k a) (brought k b)) refl refl (brought_plain m k a h.core) (brought_plain m k b j.core); depth = shallow_integer n }
   computed_plain j (Shift o k l) i = record { core = two_parts m (brought k a) (brought l b) (e.Binary o k (brought k a) (brought l b)) refl refl (brought_plain m k a h.core) (brought_plain m l b j.core); depth = shallow_integer n }
@@ -224,10 +224,10 @@ module _ (ls : List Layout) (n m : ℕ) (positive : 1 ≤ m) (first : Place) (a 
       within : (x y k m : ℕ) → x ≤ m → y ≤ k → in_branch k ≤ m → max x (in_branch y) ≤ m
       within x y k m h j l = omega arith
 
-  and_plain : (k : ℕ) → in_branch k ≤ m → PlainCore k b.expr → Makes LogicalAnd
+  pub and_plain : (k : ℕ) → in_branch k ≤ m → PlainCore k b.expr → Makes LogicalAnd
   unfolding computed shape-the_row-Expr-0 hidden-the_row-Expr-0 hidden
   and_plain k l j = logical_core k l j (e.Both a.expr b.expr) refl refl
 
-  or_plain : (k : ℕ) → in_branch k ≤ m → PlainCore k b.expr → Makes LogicalOr
+  pub or_plain : (k : ℕ) → in_branch k ≤ m → PlainCore k b.expr → Makes LogicalOr
   unfolding computed shape-the_row-Expr-0 hidden-the_row-Expr-0 hidden
   or_plain k l j = logical_core k l j (e.Either a.expr b.expr) refl refl
