@@ -42,3 +42,4 @@ pub mod FormedCores
 pub mod PlainCores
 pub mod PlainOperators
 pub mod PlainObjects
+pub mod PlainExpressions
