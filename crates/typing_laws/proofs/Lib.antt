@@ -43,3 +43,4 @@ pub mod PlainCores
 pub mod PlainOperators
 pub mod PlainObjects
 pub mod PlainExpressions
+pub mod PlainDeclarations

@@ -155,7 +155,7 @@ unfolding with_stars
 stars_deep zero t = omega arith
 stars_deep (suc n) t = stars_deep n (pointer_to t) ∙ omega arith
 
-specified_deep : (g : Environment) (x : Specifier) → WhereOk (λ t. type_depth t ≡ 1) (specified g x)
+pub specified_deep : (g : Environment) (x : Specifier) → WhereOk (λ t. type_depth t ≡ 1) (specified g x)
 unfolding specified
 specified_deep g (sp.Integer x) = refl
 specified_deep g (sp.Void t) = refl
