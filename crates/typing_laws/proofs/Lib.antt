@@ -44,3 +44,4 @@ pub mod PlainOperators
 pub mod PlainObjects
 pub mod PlainExpressions
 pub mod PlainDeclarations
+pub mod PlainStatements
