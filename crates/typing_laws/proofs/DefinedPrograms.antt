@@ -164,7 +164,7 @@ instead_bodies name done (suc n) f g (x ∷ fs) d e s b h =
         same e = cc
     at (y ∷ fs) (suc n) e h = at fs n e (false_or_right (bytes_eq x.name y.name) _ h)
 
-each_instead : (P : CoreFunction → Type 0) (n : ℕ) (g : CoreFunction) (fs : List CoreFunction) → P g → AllByRecursion P fs → AllByRecursion P (replaced n g fs)
+pub each_instead : (P : CoreFunction → Type 0) (n : ℕ) (g : CoreFunction) (fs : List CoreFunction) → P g → AllByRecursion P fs → AllByRecursion P (replaced n g fs)
 unfolding replaced
 each_instead P n g fs k h = each_append P (take n fs) _ (each_take P n fs h) (k, each_drop P (suc n) fs h)
 

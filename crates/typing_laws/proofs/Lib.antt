@@ -45,3 +45,4 @@ pub mod PlainObjects
 pub mod PlainExpressions
 pub mod PlainDeclarations
 pub mod PlainStatements
+pub mod PlainPrograms

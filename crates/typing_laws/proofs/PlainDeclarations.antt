@@ -19,7 +19,7 @@ use Rattle.step_meaning.specs.Conversions.{same_int_kind}
 use Rattle.step_meaning.specs.TypeRules.{is_scalar}
 use Rattle.step_meaning.specs.TermSizes.{type_depth}
 use Rattle.step_meaning.specs.Types.{object_cells}
-use Rattle.step_meaning.specs.Sources.{has_short_calls, calls_are_short, branching, full_nesting}
+use Rattle.step_meaning.specs.Sources.{is_bare, has_short_calls, calls_are_short, branching, full_nesting}
 use Rattle.typing_rules.specs.declared.fault.TypeFault.TheVariants.{BadInitialiser}
 use Rattle.typing_rules.specs.declared.operand.Entry.TheVariants as entry
 use Rattle.typing_rules.specs.declared.operand.Value.{Value}
@@ -66,8 +66,9 @@ declared_shallow ls ms t h k d = let e : type_depth (layered ls t) ≡ length ls
 
 -- ---- statements
 
--- no call is long, and the statement nests as little as this says, in a loop whose turns end with statements that nest so deep
+-- no annotation, no call is long, and the statement nests as little as this says, in a loop whose turns end with statements that nest so deep
 pub record Plain (b : ℕ → ℕ) (s : Stmt) : Type 0 where
+  pub bare : is_bare s ≡ true
   pub short : calls_are_short s ≡ true
   pub nested : (l m : ℕ) → l ≤ m → full_nesting l s ≤ b m
 
@@ -75,13 +76,13 @@ abbrev pub AllPlain : (ℕ → ℕ) → List Stmt → Type 0
 AllPlain b ss = AllByRecursion (Plain b) ss
 
 pub plain_weaker : (b c : ℕ → ℕ) (s : Stmt) → ((m : ℕ) → b m ≤ c m) → Plain b s → Plain c s
-plain_weaker b c s k h = record { short = h.short; nested = λ l m i. let x : full_nesting l s ≤ b m = h.nested l m i in let y : b m ≤ c m = k m in omega arith }
+plain_weaker b c s k h = record { bare = h.bare; short = h.short; nested = λ l m i. let x : full_nesting l s ≤ b m = h.nested l m i in let y : b m ≤ c m = k m in omega arith }
 
 pub all_weaker : (b c : ℕ → ℕ) (ss : List Stmt) → ((m : ℕ) → b m ≤ c m) → AllPlain b ss → AllPlain c ss
 all_weaker b c ss k h = each_weaker (Plain b) (Plain c) ss (λ s i. plain_weaker b c s k i) h
 
 pub empty_plain : (b : ℕ → ℕ) → ((m : ℕ) → 1 ≤ b m) → Plain b core.Empty
-empty_plain b k = record { short = refl; nested = λ l m i. k m }
+empty_plain b k = record { bare = refl; short = refl; nested = λ l m i. k m }
 
 -- ---- initialisers
 
@@ -195,7 +196,7 @@ module _ (g : Environment) (result : CType) (s : EnvironmentShallow g) (source :
   inits_plain : (m : ℕ) (p : 1 ≤ m) (n o : ℕ) (cs : List Cell) → CellsPlain m p cs → AllPlain (λ l. m) (init_statements g result n o cs)
   unfolding init_statements
   inits_plain m p n o [] h = tt
-  inits_plain m p n o (c ∷ cs) h = (record { short = h.0.short; nested = λ l k i. h.0.turns }, inits_plain m p n (suc o) cs h.1)
+  inits_plain m p n o (c ∷ cs) h = (record { bare = refl; short = h.0.short; nested = λ l k i. h.0.turns }, inits_plain m p n (suc o) cs h.1)
 
   initialised_has : (n : ℕ) (t : CType) (x : Option Initialiser) → IfThere InitialiserShallow x → Has (AllPlain (λ l. there_turns x)) (initialised g result n t x)
   initialised_has n t None h = pure_has (AllPlain (λ l. 1)) (core.Empty ∷ []) (empty_plain (λ l. 1) (λ m. omega arith), tt)

@@ -9,7 +9,7 @@ use Rattle.step_meaning.specs.declared.stmt.Stmt.{Stmt}
 use Rattle.step_meaning.specs.declared.stmt.Stmt.TheVariants as core
 use Rattle.step_meaning.specs.declared.stmt.Stmt.TheBlock.{shape-the_row-Stmt-0, hidden-the_row-Stmt-0, shape-the_row-Stmt-1, hidden-the_row-Stmt-1}
 use Rattle.step_meaning.specs.ExpressionTypes.{is_void}
-use Rattle.step_meaning.specs.Sources.{in_branch, branching, has_short_calls, has_short_calls_if_any, calls_are_short, all_calls_are_short, branching_if_any, test_branching, full_nesting, row_full_nesting}
+use Rattle.step_meaning.specs.Sources.{are_bare, in_branch, branching, has_short_calls, has_short_calls_if_any, calls_are_short, all_calls_are_short, branching_if_any, test_branching, full_nesting, row_full_nesting}
 use Rattle.step_meaning.proofs.Ranges.{and_true}
 use Rattle.typing_rules.specs.declared.operand.Value.{Value}
 use Rattle.typing_rules.specs.declared.fault.TypeFault.TheVariants.{Mismatch, StrayJump}
@@ -33,6 +33,11 @@ use denote.Hole.Carrier.{hidden}
 
 -- ---- rows
 
+all_bare : (b : ℕ → ℕ) (ss : List Stmt) → AllPlain b ss → are_bare (hidden-the_row-Stmt-0 ss) ≡ true
+unfolding shape-the_row-Stmt-0 hidden-the_row-Stmt-0 hidden
+all_bare b [] h = refl
+all_bare b (s ∷ ss) h = and_true h.0.bare (all_bare b ss h.1)
+
 all_short : (b : ℕ → ℕ) (ss : List Stmt) → AllPlain b ss → all_calls_are_short (hidden-the_row-Stmt-0 ss) ≡ true
 unfolding shape-the_row-Stmt-0 hidden-the_row-Stmt-0 hidden
 all_short b [] h = refl
@@ -51,6 +56,7 @@ all_nested b l m i p (s ∷ ss) h = both (full_nesting l s) (row_full_nesting l 
 block_plain : (b : ℕ → ℕ) (ss : List Stmt) → ((m : ℕ) → 1 ≤ b m) → AllPlain b ss → Plain (λ m. suc (b m)) (core.Block ss)
 unfolding shape-the_row-Stmt-0 hidden-the_row-Stmt-0 hidden
 block_plain b ss p h = record {
+  bare = all_bare b ss h;
   short = all_short b ss h;
   nested = λ l m i. let k : row_full_nesting l (hidden-the_row-Stmt-0 ss) ≤ b m = all_nested b l m i (p m) ss h in omega arith;
 }
@@ -58,6 +64,7 @@ block_plain b ss p h = record {
 if_plain : (n : ℕ) (b c : ℕ → ℕ) (x : Expr) (s r : Stmt) → PlainCore n x → Plain b s → Plain c r → Plain (λ m. max n (in_branch (max (b m) (c m)))) (core.If x s r)
 unfolding shape-the_row-Stmt-1 hidden-the_row-Stmt-1 hidden
 if_plain n b c x s r t h k = record {
+  bare = and_true h.bare k.bare;
   short = and_true t.short (and_true h.short k.short);
   nested = λ l m i.
     let d : branching x ≤ n = t.turns in
@@ -69,6 +76,7 @@ if_plain n b c x s r t h k = record {
 while_plain : (n : ℕ) (b : ℕ → ℕ) (x : Expr) (s : Stmt) → PlainCore n x → Plain b s → Plain (λ m. in_branch (max (max n (in_branch 1)) (b 1))) (core.While x s)
 unfolding shape-the_row-Stmt-1 hidden-the_row-Stmt-1 hidden
 while_plain n b x s t h = record {
+  bare = h.bare;
   short = and_true t.short h.short;
   nested = λ l m i.
     let d : branching x ≤ n = t.turns in
@@ -79,6 +87,7 @@ while_plain n b x s t h = record {
 do_plain : (n : ℕ) (b : ℕ → ℕ) (x : Expr) (s : Stmt) → PlainCore n x → Plain b s → Plain (λ m. in_branch (max (max n (in_branch 1)) (b (max n (in_branch 1))))) (core.Do s x)
 unfolding shape-the_row-Stmt-1 hidden-the_row-Stmt-1 hidden
 do_plain n b x s t h = record {
+  bare = h.bare;
   short = and_true t.short h.short;
   nested = λ l m i.
     let d : branching x ≤ n = t.turns in
@@ -99,6 +108,7 @@ for_plain : (x step : Option Expression) (b : ℕ → ℕ) (o p : Option Expr) (
     → Plain (λ m. in_branch (max (test_turns x) (max (if_there_turns step) (b (if_there_turns step))))) (core.For o p s)
 unfolding shape-the_row-Stmt-1 hidden-the_row-Stmt-1 hidden
 for_plain x step b o p s t u h = record {
+  bare = h.bare;
   short = and_true t.short (and_true u.short h.short);
   nested = λ l m i.
     let d : test_branching o ≤ test_turns x = t.turned in
@@ -169,7 +179,7 @@ module _ (g : Environment) (result : CType) (s : EnvironmentShallow g) (source :
   stepped (Some x) h = then_has (PlainCore (turns x)) (PlainStep (Some x)) (value g result x) _ (value_has x h) (λ e k. pure_has (PlainStep (Some x)) (Some e) (record { short = k.short; turned = k.turns }))
 
   eval_plain : (n : ℕ) (x : Expr) → PlainCore n x → Plain (λ m. n) (core.Eval x)
-  eval_plain n x h = record { short = h.short; nested = λ l m i. h.turns }
+  eval_plain n x h = record { bare = refl; short = h.short; nested = λ l m i. h.turns }
 
   -- ---- jumps
 
@@ -182,13 +192,13 @@ module _ (g : Environment) (result : CType) (s : EnvironmentShallow g) (source :
   returned_has : (t : Leaf) (x : Option Expression) → IfThere IsShallow x → Has (Plain (λ m. if_there_turns x)) (returned g result t x)
   returned_has t None h =
       then_has (λ (u : Unit {0}). Unit {0}) (Plain (λ m. 1)) (rule g result (not (is_void result)) t) _ (rule_has (not (is_void result)) t) (λ u k.
-      pure_has (Plain (λ m. 1)) (core.Return None) (record { short = refl; nested = λ l m i. omega arith }))
+      pure_has (Plain (λ m. 1)) (core.Return None) (record { bare = refl; short = refl; nested = λ l m i. omega arith }))
   returned_has t (Some x) h =
       then_has (PlainValue 64 (turns x)) (Plain (λ m. turns x)) (checked g result (λ g. full g x)) _ (full_has x h) (λ v k.
       then_has (λ (u : Unit {0}). Unit {0}) (Plain (λ m. turns x)) (rule g result (is_void result) t) _ (rule_has (is_void result) t) (λ u w.
       then_has (PlainCore (turns x)) (Plain (λ m. turns x)) (checked g result (λ g. operands.fitted v.first result v)) _
       (checked_has g result s source (PlainCore (turns x)) (λ g. operands.fitted v.first result v) (λ y i j. fitted_plain g.layouts 64 (turns x) (turns_positive x) v.first result v k.core)) (λ e i.
-      pure_has (Plain (λ m. turns x)) (core.Return (Some e)) (record { short = i.short; nested = λ l m j. i.turns }))))
+      pure_has (Plain (λ m. turns x)) (core.Return (Some e)) (record { bare = refl; short = i.short; nested = λ l m j. i.turns }))))
 
   -- ---- `for`
 
@@ -279,8 +289,8 @@ module _ (g : Environment) (result : CType) (s : EnvironmentShallow g) (source :
         then_has (S a) (S (For first x step a)) (statement g result true a) _ (statement_has a h.3 true) (λ b j.
         pure_has (S (For first x step a)) (with_first g result first before (core.For e d b))
         (with_first_plain first (loop_turns x step a) before (core.For e d b) (omega arith) i (for_plain x step (λ m. statement_turns m a) e d b k l j)))))))
-    statement_has (Break t) h loop = jump_has (S (Break t)) loop t core.Break (record { short = refl; nested = λ l m i. omega arith })
-    statement_has (Continue t) h loop = jump_has (S (Continue t)) loop t core.Continue (record { short = refl; nested = λ l m i. omega arith })
+    statement_has (Break t) h loop = jump_has (S (Break t)) loop t core.Break (record { bare = refl; short = refl; nested = λ l m i. omega arith })
+    statement_has (Continue t) h loop = jump_has (S (Continue t)) loop t core.Continue (record { bare = refl; short = refl; nested = λ l m i. omega arith })
     statement_has (Return t x) h loop = returned_has t x h
     statement_has (Ghost t) h loop = pure_has (S (Ghost t)) core.Empty (empty_plain (λ m. 1) (λ m. omega arith))
     statement_has (Assert t) h loop = pure_has (S (Assert t)) core.Empty (empty_plain (λ m. 1) (λ m. omega arith))
