@@ -46,3 +46,4 @@ pub mod PlainExpressions
 pub mod PlainDeclarations
 pub mod PlainStatements
 pub mod PlainPrograms
+pub mod SourceCores

@@ -1,56 +1,34 @@
 -- Cores with short calls and shallow types, whose statements nest little: what rules make of parts that are so.
-use Rattle.std.proofs.Common.{◌≡◌, ℕ, zero, suc, ◌+◌, ◌≤◌, max, Bool, true, false, ◌&&◌, not, List, [], ◌∷◌, length, Option, Some, None, Ok, Err, refl, sym, ap, subst, ◌∙◌, arith}
-use Rattle.std.specs.Prelude.{pos, nat_le, if◌then◌else◌}
-use Rattle.std.specs.List.{AllByRecursion}
-use Rattle.std.proofs.lemmas.Bool.{le-leb}
+use Rattle.std.proofs.Common.{◌≡◌, ℕ, suc, ◌+◌, ◌≤◌, max, Bool, true, false, ◌&&◌, List, refl, sym, subst, ◌∙◌, arith}
+use Rattle.std.specs.Prelude.{if◌then◌else◌}
 use Rattle.c_lexer.specs.declared.token.Place.{Place}
 use Rattle.step_meaning.specs.declared.value.IntKind.{IntKind}
 use Rattle.step_meaning.specs.declared.value.IntKind.TheVariants as kind
 use Rattle.step_meaning.specs.declared.value.CType.{CType, end_of-CType, more_of-CType}
 use Rattle.step_meaning.specs.declared.value.CType.TheVariants as type
-use Rattle.step_meaning.specs.declared.expr.IntOp.{IntOp}
-use Rattle.step_meaning.specs.declared.expr.IntOp.TheVariants as op
-use Rattle.step_meaning.specs.declared.expr.CompareOp.{CompareOp}
-use Rattle.step_meaning.specs.declared.expr.Answer.{Answer}
-use Rattle.step_meaning.specs.declared.expr.Answer.TheVariants.{After}
 use Rattle.step_meaning.specs.declared.expr.Side.TheVariants.{PointerFirst, PointerLast, Minus}
 use Rattle.step_meaning.specs.declared.expr.Expr.{Expr}
 use Rattle.step_meaning.specs.declared.expr.Expr.TheVariants as e
-use Rattle.step_meaning.specs.declared.expr.Expr.TheBlock.{shape-the_row-Expr-0, hidden-the_row-Expr-0, shape-the_row-Place_-2, hidden-the_row-Place_-2}
+use Rattle.step_meaning.specs.declared.expr.Expr.TheBlock.{shape-the_row-Expr-0, hidden-the_row-Expr-0}
 use Rattle.step_meaning.specs.declared.expr.Place_.{Place_}
 use Rattle.step_meaning.specs.declared.program.Layout.{Layout}
-use Rattle.step_meaning.specs.Types.{where_true}
 use Rattle.step_meaning.specs.Conversions.{same_int_kind}
 use Rattle.step_meaning.specs.TermSizes.{type_depth}
-use Rattle.step_meaning.specs.ExpressionTypes.{is_register, is_void, pointer_to, is_equality}
 use Rattle.step_meaning.specs.Sources.{has_short_calls, place_has_short_calls, in_branch, branching, place_branching}
 use Rattle.step_meaning.proofs.Ranges.{and_true, false_is_not_true}
-use Rattle.step_meaning.proofs.TypedMemory.{WhereSome}
-use Rattle.typing_rules.specs.declared.fault.TypeFault.TheVariants.{Mismatch}
-use Rattle.typing_rules.specs.declared.judgement.Shape.{Shape}
-use Rattle.typing_rules.specs.declared.judgement.Shape.TheVariants as is
 use Rattle.typing_rules.specs.declared.judgement.Operator.{Operator}
 use Rattle.typing_rules.specs.declared.judgement.Operator.TheVariants as operator
 use Rattle.typing_rules.specs.declared.judgement.Operation.{Operation}
 use Rattle.typing_rules.specs.declared.judgement.Operation.TheVariants.{Arithmetic, Shift, MovePointer, PointerDifference, CompareIntegers, ComparePointers, CompareWithNull, CompareNullWith, LogicalAnd, LogicalOr}
-use Rattle.typing_rules.specs.declared.judgement.Selection.{Selection}
-use Rattle.typing_rules.specs.declared.judgement.Selection.TheVariants.{OfIntegers, OfOneType, NullLast, NullFirst}
-use Rattle.typing_rules.specs.declared.judgement.CastConversion.{CastConversion}
-use Rattle.typing_rules.specs.declared.judgement.CastConversion.TheVariants as cast_is
-use Rattle.typing_rules.specs.declared.judgement.Conversion.{Conversion}
-use Rattle.typing_rules.specs.declared.judgement.Conversion.TheVariants as conversion_is
-use Rattle.typing_rules.specs.declared.judgement.CompoundOperation.{CompoundOperation}
-use Rattle.typing_rules.specs.declared.judgement.CompoundOperation.TheVariants.{OnIntegers, Forward, Backward}
 use Rattle.typing_rules.specs.declared.operand.Operand.{Operand}
 use Rattle.typing_rules.specs.declared.operand.Value.{Value}
 use Rattle.typing_rules.specs.declared.operand.What.{What}
 use Rattle.typing_rules.specs.declared.operand.What.TheVariants.{At, Made}
-use Rattle.typing_rules.specs.Checked.{Checked, ◌>>=◌, kept}
-use Rattle.typing_rules.specs.Judgements.{shape, is_scalar_shape, is_null, on_integers, on_pointers, arithmetic, relation_of_pointers, relation, operation, conversion, selection, cast_conversion, is_pointer}
-use Rattle.typing_rules.specs.Operands.{loaded, value_of, value, condition, brought, converted_by, fitted}
-use Rattle.typing_rules.specs.Operators.{computed, combined, selected, choice_of, cast_by, cast, promoted_value, promoting, negation, address_at, address, pointee, dereferenced}
+use Rattle.typing_rules.specs.Judgements.{shape, is_scalar_shape}
+use Rattle.typing_rules.specs.Operands.{loaded, value_of, value, condition, brought}
+use Rattle.typing_rules.specs.Operators.{computed}
 use Rattle.typing_laws.specs.SmallTypes.{WhereOk}
-use Rattle.typing_laws.proofs.CheckedValues.{then_holds, then_known, kept_holds, if_holds}
+use Rattle.typing_laws.proofs.CheckedValues.{if_holds}
 use denote.Hole.Carrier.{hidden}
 
 -- ---- numbers

@@ -1,6 +1,6 @@
 -- Declarations of a source in a body: its locals have shallow types, and what gives them their values has short calls and nests as little as the text says.
-use Rattle.std.proofs.Common.{◌≡◌, ℕ, suc, ◌+◌, ◌≤◌, max, Bool, true, false, ◌&&◌, not, List, [], ◌∷◌, ◌++◌, length, Option, Some, None, Ok, refl, sym, ap, subst, ◌∙◌, arith}
-use Rattle.std.specs.Prelude.{pos, map, flat_map, if◌then◌else◌, is_some}
+use Rattle.std.proofs.Common.{◌≡◌, ℕ, suc, ◌+◌, ◌≤◌, true, false, not, List, [], ◌∷◌, ◌++◌, length, Option, Some, None, Ok, refl, ap, arith}
+use Rattle.std.specs.Prelude.{pos, map, flat_map}
 use Rattle.std.specs.List.{AllByRecursion}
 use Rattle.c_lexer.specs.declared.token.Place.{Place}
 use Rattle.c_words.specs.declared.word.Leaf.{Leaf}
@@ -14,31 +14,27 @@ use Rattle.step_meaning.specs.declared.expr.Expr.TheVariants as e
 use Rattle.step_meaning.specs.declared.expr.Expr.TheBlock.{shape-the_row-Expr-0, hidden-the_row-Expr-0}
 use Rattle.step_meaning.specs.declared.stmt.Stmt.{Stmt}
 use Rattle.step_meaning.specs.declared.stmt.Stmt.TheVariants as core
-use Rattle.step_meaning.specs.declared.program.Declared.{Declared as Named}
 use Rattle.step_meaning.specs.Conversions.{same_int_kind}
 use Rattle.step_meaning.specs.TypeRules.{is_scalar}
 use Rattle.step_meaning.specs.TermSizes.{type_depth}
 use Rattle.step_meaning.specs.Types.{object_cells}
-use Rattle.step_meaning.specs.Sources.{is_bare, has_short_calls, calls_are_short, branching, full_nesting}
+use Rattle.step_meaning.specs.Sources.{is_bare, calls_are_short, full_nesting}
 use Rattle.typing_rules.specs.declared.fault.TypeFault.TheVariants.{BadInitialiser}
-use Rattle.typing_rules.specs.declared.operand.Entry.TheVariants as entry
-use Rattle.typing_rules.specs.declared.operand.Value.{Value}
 use Rattle.typing_rules.specs.Checked.{Checked, unless}
-use Rattle.typing_rules.specs.Checked.{◌>>=◌ as ◌then◌}
-use Rattle.typing_rules.specs.Syntax.{Expression, Modifier, PointerTo, ArrayUnsized, ArrayOf, Initialiser, Initialisers, Value as OneValue, Braces, NoElement, Element, Declared, Local}
-use Rattle.typing_rules.specs.Environment.{Environment, Scope, place_of, bytes_in, is_reserved, found_in, specified}
+use Rattle.typing_rules.specs.Syntax.{Modifier, PointerTo, ArrayUnsized, ArrayOf, Initialiser, Initialisers, Value as OneValue, Braces, NoElement, Element, Declared, Local}
+use Rattle.typing_rules.specs.Environment.{Environment, Scope, specified}
 use Rattle.typing_rules.specs.Operands.{fitted}
 use Rattle.typing_rules.specs.Expressions.{full}
-use Rattle.typing_rules.specs.Declarations.{Layer, Pointing, Sized, size, layers, layered, count_of, is_complete_in, declarable}
+use Rattle.typing_rules.specs.Declarations.{Layer, Pointing, Sized, size, layers, layered, count_of, declarable}
 use Rattle.typing_rules.specs.Initialisers.{Cell, zero_of, local_cells, is_all_zero, all_alone, alone, zeros, parts}
 use Rattle.typing_rules.specs.Initialisers as initialisers
-use Rattle.typing_rules.specs.Statements.{Frame, Does, pure, ◌>>=◌, opened, tail, closed, in_scope, innermost, with_name, local_variable, declared_as, judged, init_statements, initialised, declare_one, declare_all, declare, checked, seen}
+use Rattle.typing_rules.specs.Statements.{Frame, Does, pure, ◌>>=◌, opened, tail, in_scope, with_name, declared_as, judged, init_statements, initialised, declare_one, declare_all, declare, checked, seen}
 use Rattle.typing_laws.specs.SmallTypes.{WhereOk}
-use Rattle.typing_laws.specs.ShallowSyntax.{turns, IsShallow, InitialiserShallow, InitialisersShallow, DeclaredShallow, AllDeclaredShallow, initialiser_turns, initialisers_turns, there_turns, declared_turns}
+use Rattle.typing_laws.specs.ShallowSyntax.{InitialiserShallow, InitialisersShallow, DeclaredShallow, AllDeclaredShallow, initialiser_turns, initialisers_turns, there_turns, declared_turns}
 use Rattle.typing_laws.specs.ParsedSyntax.{IfThere}
 use Rattle.typing_laws.proofs.CheckedValues.{then_holds, then_known, if_holds}
 use Rattle.typing_laws.proofs.EachOf.{each_append, each_weaker}
-use Rattle.typing_laws.proofs.PlainCores.{PlainCore, PlainValue, core_weaker, null_plain, one_part}
+use Rattle.typing_laws.proofs.PlainCores.{PlainCore, PlainValue, null_plain}
 use Rattle.typing_laws.proofs.PlainOperators.{fitted_plain}
 use Rattle.typing_laws.proofs.PlainObjects.{IsShallowType}
 use Rattle.typing_laws.proofs.PlainExpressions.{ScopeShallow, EnvironmentShallow, turns_positive, specified_deep, full_plain}
@@ -225,7 +221,7 @@ module _ (g : Environment) (result : CType) (s : EnvironmentShallow g) (source :
       then_has (AllPlain (λ l. declared_turns ds)) (AllPlain (λ l. declared_turns (d ∷ ds))) (declare_all g result base ds) _ (declare_all_has base ds b h.1) (λ more j.
       pure_has (AllPlain (λ l. declared_turns (d ∷ ds))) (ss ++ more)
       (each_append (Plain (λ l. declared_turns (d ∷ ds))) ss more
-        (all_weaker (λ l. there_turns d.initialiser) (λ l. declared_turns (d ∷ ds)) ss (λ m. omega arith) i) (all_weaker (λ l. declared_turns ds) (λ l. declared_turns (d ∷ ds)) more (λ m. omega arith) j))))
+      (all_weaker (λ l. there_turns d.initialiser) (λ l. declared_turns (d ∷ ds)) ss (λ m. omega arith) i) (all_weaker (λ l. declared_turns ds) (λ l. declared_turns (d ∷ ds)) more (λ m. omega arith) j))))
 
   pub declare_has : (l : Local) → AllDeclaredShallow l.declared → Has (AllPlain (λ m. declared_turns l.declared)) (declare g result l)
   unfolding declare

@@ -1,6 +1,6 @@
 -- The core of each expression of a source has short calls and shallow types, and the statements that compute it nest as little as the text says.
-use Rattle.std.proofs.Common.{◌≡◌, ℕ, zero, suc, pred, ◌+◌, ◌≤◌, max, Bool, true, false, ◌&&◌, ◌||◌, not, List, [], ◌∷◌, length, Option, Some, None, Ok, Err, refl, sym, ap, subst, ◌∙◌, arith}
-use Rattle.std.specs.Prelude.{pos, nat_le, if◌then◌else◌, ◌==◌, codes}
+use Rattle.std.proofs.Common.{◌≡◌, ℕ, zero, suc, pred, ◌+◌, ◌≤◌, max, Bool, true, false, not, List, [], ◌∷◌, length, Option, Some, None, refl, ap, subst, ◌∙◌, arith}
+use Rattle.std.specs.Prelude.{nat_le, if◌then◌else◌, ◌==◌, codes}
 use Rattle.std.specs.List.{AllByRecursion}
 use Rattle.std.specs.Str.{bytes_eq}
 use Rattle.std.proofs.lemmas.Bool.{le-leb, leb-true}
@@ -14,22 +14,19 @@ use Rattle.c_words.specs.declared.word.Mode.{Mode}
 use Rattle.c_words.specs.declared.word.Mode.TheVariants as mode
 use Rattle.c_grammar.specs.declared.types.Specifier.{Specifier}
 use Rattle.c_grammar.specs.declared.types.Specifier.TheVariants as sp
-use Rattle.step_meaning.specs.declared.value.CType.{CType, end_of-CType, more_of-CType}
-use Rattle.step_meaning.specs.declared.value.CType.TheVariants as type
+use Rattle.step_meaning.specs.declared.value.CType.{CType}
 use Rattle.step_meaning.specs.declared.expr.IntOp.{IntOp}
 use Rattle.step_meaning.specs.declared.expr.IntOp.TheVariants as op
 use Rattle.step_meaning.specs.declared.expr.UnaryOp.TheVariants as unary
 use Rattle.step_meaning.specs.declared.expr.Answer.TheVariants.{Before, After}
-use Rattle.step_meaning.specs.declared.expr.Expr.{Expr, Row_of-Expr}
+use Rattle.step_meaning.specs.declared.expr.Expr.{Expr}
 use Rattle.step_meaning.specs.declared.expr.Expr.TheVariants as e
 use Rattle.step_meaning.specs.declared.expr.Expr.TheBlock.{shape-the_row-Expr-0, hidden-the_row-Expr-0, shape-the_row-Expr-1, hidden-the_row-Expr-1}
-use Rattle.step_meaning.specs.declared.program.Layout.{Layout}
 use Rattle.step_meaning.specs.TermSizes.{type_depth}
 use Rattle.step_meaning.specs.ExpressionTypes.{pointer_to}
-use Rattle.step_meaning.specs.Sources.{argument_count, has_short_calls, row_has_short_calls, in_branch, branching, row_branching}
-use Rattle.step_meaning.proofs.Ranges.{and_true, false_is_not_true}
+use Rattle.step_meaning.specs.Sources.{argument_count, row_has_short_calls, in_branch, branching, row_branching}
+use Rattle.step_meaning.proofs.Ranges.{and_true}
 use Rattle.step_meaning.proofs.TypedMemory.{WhereSome}
-use Rattle.typing_rules.specs.declared.judgement.Operator.{Operator}
 use Rattle.typing_rules.specs.declared.operand.Entry.{Entry}
 use Rattle.typing_rules.specs.declared.operand.Entry.TheVariants.{Variable, Function}
 use Rattle.typing_rules.specs.declared.operand.Operand.{Operand}
@@ -37,21 +34,20 @@ use Rattle.typing_rules.specs.declared.operand.Value.{Value}
 use Rattle.typing_rules.specs.declared.operand.What.{What}
 use Rattle.typing_rules.specs.declared.operand.What.TheVariants.{At, Made}
 use Rattle.typing_rules.specs.declared.fault.TypeFault.{TypeFault}
-use Rattle.typing_rules.specs.declared.fault.TypeFault.TheVariants.{ArgumentCount, NoBody, MainCalled, TooLarge}
+use Rattle.typing_rules.specs.declared.fault.TypeFault.TheVariants.{TooLarge}
 use Rattle.typing_rules.specs.Checked.{Checked, ◌>>=◌, none_of, unless, kept}
 use Rattle.typing_rules.specs.Syntax.{Spelled, Expression, Expressions, Name, Number, Character, Paren, Call, Index, Member, Arrow, Increment, Decrement, Prefix, Cast, SizeOf, SizeOfType, Binary, Choose, Assign, NoMore, Then}
 use Rattle.typing_rules.specs.Nodes.{nodes, all_nodes}
-use Rattle.typing_rules.specs.Environment.{Environment, Scope, place_of, bytes_in, found_in, or_else, found, entry, contains, specified, with_stars, spelled_type}
+use Rattle.typing_rules.specs.Environment.{Environment, Scope, place_of, bytes_in, found_in, or_else, found, entry, specified, with_stars, spelled_type}
 use Rattle.typing_rules.specs.Judgements.{shape, is_integer_shape, is_pointer, is_null, operator_of, compound_of}
-use Rattle.typing_rules.specs.Operands.{made, zero_literal, value, condition, brought, fitted}
+use Rattle.typing_rules.specs.Operands.{zero_literal, value, condition}
 use Rattle.typing_rules.specs.Subobjects.{base_of}
 use Rattle.typing_rules.specs.Allocation.{Request, operand_type, type_of_object, one_object, objects, product, is_allocated, allocated, freed}
-use Rattle.typing_rules.specs.Expressions.{literal, numbered, is_library_number, is_malloc_number, is_free_number, is_star, named, called_core, called, malloc_called, free_called, called_entry, fitted_argument, tail, prefixed, assigned_by, operand, arguments, only_value, only_request, requested, measured, most_nodes, full}
+use Rattle.typing_rules.specs.Expressions.{literal, numbered, is_malloc_number, is_free_number, is_star, named, called_core, called, malloc_called, free_called, called_entry, fitted_argument, tail, prefixed, assigned_by, operand, arguments, only_value, only_request, requested, measured, most_nodes, full}
 use Rattle.typing_laws.specs.SmallTypes.{WhereOk}
-use Rattle.typing_laws.specs.ShallowSyntax.{nest, arguments_nest, is_branch, turns, arguments_turns, IsShallow}
+use Rattle.typing_laws.specs.ShallowSyntax.{nest, arguments_nest, is_branch, turns, arguments_turns}
 use Rattle.typing_laws.proofs.CheckedValues.{then_holds, then_known, kept_holds, if_holds, weaker}
-use Rattle.typing_laws.proofs.DeclaredNames.{not_false, unless_holds}
-use Rattle.typing_laws.proofs.PlainCores.{both_below, PlainCore, PlainPlace, ShallowValue, ShallowObject, PlainMade, PlainAt, PlainWhat, PlainOperand, PlainValue, core_weaker, made_weaker, what_weaker, one_part, null_plain, brought_plain, value_plain, condition_plain, shallow_integer, right_turns}
+use Rattle.typing_laws.proofs.PlainCores.{both_below, PlainCore, ShallowValue, ShallowObject, PlainWhat, PlainOperand, PlainValue, one_part, null_plain, brought_plain, value_plain, condition_plain, shallow_integer, right_turns}
 use Rattle.typing_laws.proofs.PlainOperators.{combined_plain, choice_plain, cast_plain, promoting_plain, unary_plain, negation_plain, address_plain, dereferenced_plain, fitted_plain}
 use Rattle.typing_laws.proofs.PlainObjects.{IsShallowType, ShallowMembers, object_shallow, assigned_plain, compound_plain, stepped_plain, PlainBase, base_plain, indexed_plain, dot_plain, arrow_plain}
 use denote.Hole.Carrier.{hidden}
@@ -367,7 +363,7 @@ module _ (g : Environment) (s : EnvironmentShallow g) where
         let p : 1 ≤ m = positive (Call t xs) m b in
         then_holds EntryShallow (PlainOperand n m) (entry g t) _ (entry_plain g s n m l p t)
         (λ x h. called_entry_plain g s n m l p t x (only_request g xs) (only_value g xs) (arguments g xs) h
-          (request_alone xs n m l a b (omega arith)) (value_alone xs n m l a b (omega arith)) (arguments_plain xs n m 598 l a b (omega arith) (omega arith)))
+        (request_alone xs n m l a b (omega arith)) (value_alone xs n m l a b (omega arith)) (arguments_plain xs n m 598 l a b (omega arith) (omega arith)))
     operand_plain (Index x t i) n m l a b c =
         let p : 1 ≤ m = positive (Index x t i) m b in
         then_holds (PlainOperand n m) (PlainOperand n m) (operand g x) _ (operand_plain x n m l (omega arith) (omega arith) (omega arith)) (λ a' h.
@@ -437,14 +433,14 @@ module _ (g : Environment) (s : EnvironmentShallow g) where
     requested_plain (Binary x t y) n m l a b c =
         if_holds (WhereSome (WhereOk (PlainRequest n m))) (is_star t) _ _
         (λ i.
-          let p : 1 ≤ m = positive (Binary x t y) m b in
-          let d : turns x ≤ m = below (left_of (is_branch t.word) (turns x) (turns y)) b in
-          let e : turns y ≤ m = below (above (is_branch t.word) (turns x) (turns y)) b in
-          product_plain g s n m l p (place_of t) (measured g x) (operand g x >>= value) (measured g y) (operand g y >>= value)
-          (measured_plain x n l (omega arith) (omega arith))
-          (value_then g s n m l p (operand g x) (operand_plain x n m l (omega arith) d (omega arith)))
-          (measured_plain y n l (omega arith) (omega arith))
-          (value_then g s n m l p (operand g y) (operand_plain y n m l (omega arith) e (omega arith)))) (λ i. tt)
+        let p : 1 ≤ m = positive (Binary x t y) m b in
+        let d : turns x ≤ m = below (left_of (is_branch t.word) (turns x) (turns y)) b in
+        let e : turns y ≤ m = below (above (is_branch t.word) (turns x) (turns y)) b in
+        product_plain g s n m l p (place_of t) (measured g x) (operand g x >>= value) (measured g y) (operand g y >>= value)
+        (measured_plain x n l (omega arith) (omega arith))
+        (value_then g s n m l p (operand g x) (operand_plain x n m l (omega arith) d (omega arith)))
+        (measured_plain y n l (omega arith) (omega arith))
+        (value_then g s n m l p (operand g y) (operand_plain y n m l (omega arith) e (omega arith)))) (λ i. tt)
     requested_plain x n m l a b c = tt
 
     measured_plain : (x : Expression) (n : ℕ) → n ≤ 64 → suc (nest x) ≤ n → nodes x ≤ 598 → WhereSome (WhereOk (ShallowObject n)) (measured g x)
@@ -474,7 +470,7 @@ module _ (g : Environment) (s : EnvironmentShallow g) where
   full_plain source x n m l a b =
       value_cases (nat_le (nodes x) (most_nodes g g.mode))
       (λ e. then_holds (PlainOperand n m) (PlainValue n m) (operand g x) _ (operand_plain x n m l a b (by_size (nodes x) g.mode source e)) (λ a' h.
-        then_holds (PlainValue n m) (PlainValue n m) (value a') _ (value_plain n m a' h) (λ v k.
-        then_known (PlainValue n m) (unless (not (nat_le (nodes x) (most_nodes g g.mode))) (TooLarge a'.first)) _ (λ u i. k))))
+      then_holds (PlainValue n m) (PlainValue n m) (value a') _ (value_plain n m a' h) (λ v k.
+      then_known (PlainValue n m) (unless (not (nat_le (nodes x) (most_nodes g g.mode))) (TooLarge a'.first)) _ (λ u i. k))))
       (λ e. then_known (PlainValue n m) (operand g x) _ (λ a' h.
-        then_known (PlainValue n m) (value a') _ (λ v k. unless_true (TooLarge a'.first) (PlainValue n m) (nat_le (nodes x) (most_nodes g g.mode)) _ (ap not e))))
+      then_known (PlainValue n m) (value a') _ (λ v k. unless_true (TooLarge a'.first) (PlainValue n m) (nat_le (nodes x) (most_nodes g g.mode)) _ (ap not e))))

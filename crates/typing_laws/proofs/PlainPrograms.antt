@@ -1,8 +1,7 @@
 -- A program of a source has shallow types, and its functions have no annotations, short calls and statements that nest little.
-use Rattle.std.proofs.Common.{◌≡◌, ℕ, zero, suc, ◌+◌, ◌≤◌, Bool, true, false, ◌&&◌, ◌||◌, not, List, [], ◌∷◌, ◌++◌, map, take, drop, length, Option, Some, None, Ok, refl, sym, ap, subst, ◌∙◌, arith}
-use Rattle.std.specs.Prelude.{nat_le, is_some}
+use Rattle.std.proofs.Common.{◌≡◌, ℕ, suc, ◌≤◌, Bool, true, false, List, [], ◌∷◌, ◌++◌, map, length, Option, Some, None, refl, arith}
+use Rattle.std.specs.Prelude.{is_some}
 use Rattle.std.specs.List.{AllByRecursion}
-use Rattle.std.proofs.lemmas.Bool.{le-leb}
 use Rattle.c_words.specs.declared.word.Leaf.{Leaf}
 use Rattle.c_words.specs.declared.word.Mode.TheVariants as mode
 use Rattle.step_meaning.specs.declared.value.CType.{CType, end_of-CType, more_of-CType}
@@ -11,29 +10,27 @@ use Rattle.step_meaning.specs.declared.value.NameKind.TheVariants as names
 use Rattle.step_meaning.specs.declared.stmt.Stmt.{Stmt}
 use Rattle.step_meaning.specs.declared.program.Declared.{Declared as Named}
 use Rattle.step_meaning.specs.declared.program.Function.{Function as CoreFunction}
-use Rattle.step_meaning.specs.declared.program.Layout.{Layout}
 use Rattle.step_meaning.specs.TermSizes.{type_depth}
 use Rattle.step_meaning.specs.Sources.{is_bare, calls_are_short, full_nesting}
 use Rattle.typing_rules.specs.declared.fault.TypeFault.TheVariants.{TooLarge}
-use Rattle.typing_rules.specs.declared.operand.Entry.{Entry}
 use Rattle.typing_rules.specs.declared.operand.Entry.TheVariants as entry
-use Rattle.typing_rules.specs.Checked.{Checked, ◌>>=◌, unless}
+use Rattle.typing_rules.specs.Checked.{unless}
 use Rattle.typing_rules.specs.Syntax.{Spelled, Declarator, Declared, Members, Parameter, Statements, Item, Struct, Variables, Function, Meta, GhostVariable}
-use Rattle.typing_rules.specs.Environment.{Environment, Scope, place_of, bytes_in, is_reserved, specified, spelled_type}
-use Rattle.typing_rules.specs.Declarations.{layers, layered, count_of, is_complete_in, declarable}
-use Rattle.typing_rules.specs.Statements.{Frame, statements}
-use Rattle.typing_rules.specs.FileScope.{Program, seen, seen_now, tags, bytes, file_scope, variable_entry, function_entry, numbered, is_known, is_main_name, first_values, with_variable, with_values, variable, variables}
-use Rattle.typing_rules.specs.Structs.{has_member, member, member_list, all_members, tag_declarable, with_layout, structure}
-use Rattle.typing_rules.specs.Functions.{declares_allocation, adjusted, name_of, place_of_parameter, is_repeated, declared_name, parameter_entries, parameter_scope, with_parameters, is_wrong_parameter, parameter, parameters, function_number, declarable_function, without_name, prototype, defined_function, with_function, number_or, replaced, defined_as, function}
+use Rattle.typing_rules.specs.Environment.{Environment, place_of, specified, spelled_type}
+use Rattle.typing_rules.specs.Declarations.{layers, layered, count_of, declarable}
+use Rattle.typing_rules.specs.Statements.{statements}
+use Rattle.typing_rules.specs.FileScope.{Program, seen, seen_now, tags, bytes, file_scope, variable_entry, function_entry, numbered, first_values, with_variable, variable, variables}
+use Rattle.typing_rules.specs.Structs.{member, member_list, all_members, tag_declarable, structure}
+use Rattle.typing_rules.specs.Functions.{declares_allocation, adjusted, declared_name, parameter_entries, parameter_scope, with_parameters, parameter, parameters, function_number, declarable_function, without_name, prototype, defined_function, with_function, number_or, defined_as, function}
 use Rattle.typing_rules.specs.Programs.{item, items, library, nameless}
 use Rattle.typing_laws.specs.SmallTypes.{WhereOk}
-use Rattle.typing_laws.specs.ShallowSyntax.{DeclaratorShallow, DeclaredShallow, AllDeclaredShallow, StatementsShallow, statements_turns, BodyShallow, ItemShallow, ItemsShallow}
-use Rattle.typing_laws.proofs.CheckedValues.{then_holds, then_known, where_ok}
+use Rattle.typing_laws.specs.ShallowSyntax.{DeclaratorShallow, DeclaredShallow, AllDeclaredShallow, statements_turns, BodyShallow, ItemShallow, ItemsShallow}
+use Rattle.typing_laws.proofs.CheckedValues.{then_holds, then_known}
 use Rattle.typing_laws.proofs.EachOf.{each_append, each_weaker, each_numbered}
 use Rattle.typing_laws.proofs.DefinedPrograms.{each_instead}
 use Rattle.typing_laws.proofs.PlainObjects.{IsShallowType, ShallowMembers}
 use Rattle.typing_laws.proofs.PlainExpressions.{EntryShallow, ScopeShallow, EnvironmentShallow, specified_deep, spelled_deep}
-use Rattle.typing_laws.proofs.PlainDeclarations.{layers_counted, declared_shallow, Plain, AllPlain, FrameShallow, Leaves}
+use Rattle.typing_laws.proofs.PlainDeclarations.{layers_counted, declared_shallow, Plain, AllPlain, Leaves}
 use Rattle.typing_laws.proofs.PlainStatements.{statements_have}
 
 -- ---- what is kept of a program
@@ -215,7 +212,11 @@ items_plain (x ∷ xs) p c h = then_holds PlainProgram PlainProgram (item x p) _
 pub library_plain : AllByRecursion PlainFunction library
 library_plain = (
   prototype_plain _ _ [] (omega arith) tt,
-  (prototype_plain _ _ (nameless _ ∷ []) (omega arith) (omega arith, tt),
-  (prototype_plain _ _ (nameless _ ∷ []) (omega arith) (omega arith, tt),
-  (prototype_plain _ _ (nameless _ ∷ []) (omega arith) (omega arith, tt), tt))),
+  (
+    prototype_plain _ _ (nameless _ ∷ []) (omega arith) (omega arith, tt),
+    (
+      prototype_plain _ _ (nameless _ ∷ []) (omega arith) (omega arith, tt),
+      (prototype_plain _ _ (nameless _ ∷ []) (omega arith) (omega arith, tt), tt),
+    ),
+  ),
 )

@@ -1,6 +1,5 @@
 -- Statements of a source: no call is long, and they nest as little as the text says.
-use Rattle.std.proofs.Common.{◌≡◌, ℕ, suc, ◌+◌, ◌≤◌, max, Bool, true, false, ◌&&◌, not, List, [], ◌∷◌, ◌++◌, length, Option, Some, None, Ok, refl, sym, ap, subst, ◌∙◌, arith}
-use Rattle.std.specs.List.{AllByRecursion}
+use Rattle.std.proofs.Common.{◌≡◌, ℕ, suc, ◌≤◌, max, Bool, true, not, List, [], ◌∷◌, ◌++◌, Option, Some, None, refl, arith}
 use Rattle.c_words.specs.declared.word.Leaf.{Leaf}
 use Rattle.c_words.specs.declared.word.Mode.TheVariants as mode
 use Rattle.step_meaning.specs.declared.value.CType.{CType}
@@ -9,18 +8,16 @@ use Rattle.step_meaning.specs.declared.stmt.Stmt.{Stmt}
 use Rattle.step_meaning.specs.declared.stmt.Stmt.TheVariants as core
 use Rattle.step_meaning.specs.declared.stmt.Stmt.TheBlock.{shape-the_row-Stmt-0, hidden-the_row-Stmt-0, shape-the_row-Stmt-1, hidden-the_row-Stmt-1}
 use Rattle.step_meaning.specs.ExpressionTypes.{is_void}
-use Rattle.step_meaning.specs.Sources.{are_bare, in_branch, branching, has_short_calls, has_short_calls_if_any, calls_are_short, all_calls_are_short, branching_if_any, test_branching, full_nesting, row_full_nesting}
+use Rattle.step_meaning.specs.Sources.{are_bare, in_branch, branching, has_short_calls_if_any, all_calls_are_short, branching_if_any, test_branching, full_nesting, row_full_nesting}
 use Rattle.step_meaning.proofs.Ranges.{and_true}
-use Rattle.typing_rules.specs.declared.operand.Value.{Value}
 use Rattle.typing_rules.specs.declared.fault.TypeFault.TheVariants.{Mismatch, StrayJump}
-use Rattle.typing_rules.specs.Checked.{Checked, unless}
+use Rattle.typing_rules.specs.Checked.{unless}
 use Rattle.typing_rules.specs.Checked.{◌>>=◌ as ◌then◌}
 use Rattle.typing_rules.specs.Syntax.{Expression, Local, Statement, Nothing, Evaluate, Block, Declare, If, IfElse, While, Do, For, Break, Continue, Return, Ghost, Assert, Statements, End, Next, ForFirst, NoFirst, FirstValue, FirstLocal}
 use Rattle.typing_rules.specs.Operands as operands
 use Rattle.typing_rules.specs.Environment.{Environment, place_of}
 use Rattle.typing_rules.specs.Expressions.{full}
-use Rattle.typing_rules.specs.Statements.{Frame, Does, pure, ◌>>=◌, in_scope, declare, value, test, where_present, rule, jump, returned, first_part, scoped, with_first, statement, statements, checked, seen}
-use Rattle.typing_laws.specs.SmallTypes.{WhereOk}
+use Rattle.typing_rules.specs.Statements.{Does, pure, ◌>>=◌, in_scope, declare, value, test, where_present, rule, jump, returned, first_part, scoped, with_first, statement, statements, checked}
 use Rattle.typing_laws.specs.ParsedSyntax.{IfThere}
 use Rattle.typing_laws.specs.ShallowSyntax.{turns, IsShallow, declared_turns, ForFirstShallow, StatementShallow, StatementsShallow, if_there_turns, test_turns, with_first_turns, statement_turns, statements_turns}
 use Rattle.typing_laws.proofs.CheckedValues.{then_holds, then_known}
@@ -28,7 +25,7 @@ use Rattle.typing_laws.proofs.EachOf.{each_append}
 use Rattle.typing_laws.proofs.PlainCores.{PlainCore, PlainValue, condition_plain}
 use Rattle.typing_laws.proofs.PlainOperators.{fitted_plain}
 use Rattle.typing_laws.proofs.PlainExpressions.{EnvironmentShallow, turns_positive, full_plain}
-use Rattle.typing_laws.proofs.PlainDeclarations.{Plain, AllPlain, plain_weaker, all_weaker, empty_plain, FrameShallow, Leaves, Has, then_has, pure_has, scope_has, checked_has, declare_has}
+use Rattle.typing_laws.proofs.PlainDeclarations.{Plain, AllPlain, plain_weaker, all_weaker, empty_plain, Leaves, Has, then_has, pure_has, scope_has, checked_has, declare_has}
 use denote.Hole.Carrier.{hidden}
 
 -- ---- rows
@@ -67,10 +64,10 @@ if_plain n b c x s r t h k = record {
   bare = and_true h.bare k.bare;
   short = and_true t.short (and_true h.short k.short);
   nested = λ l m i.
-    let d : branching x ≤ n = t.turns in
-    let e : full_nesting l s ≤ b m = h.nested l m i in
-    let f : full_nesting l r ≤ c m = k.nested l m i in
-    omega arith;
+      let d : branching x ≤ n = t.turns in
+      let e : full_nesting l s ≤ b m = h.nested l m i in
+      let f : full_nesting l r ≤ c m = k.nested l m i in
+      omega arith;
 }
 
 while_plain : (n : ℕ) (b : ℕ → ℕ) (x : Expr) (s : Stmt) → PlainCore n x → Plain b s → Plain (λ m. in_branch (max (max n (in_branch 1)) (b 1))) (core.While x s)
@@ -79,9 +76,9 @@ while_plain n b x s t h = record {
   bare = h.bare;
   short = and_true t.short h.short;
   nested = λ l m i.
-    let d : branching x ≤ n = t.turns in
-    let e : full_nesting 1 s ≤ b 1 = h.nested 1 1 (omega arith) in
-    omega arith;
+      let d : branching x ≤ n = t.turns in
+      let e : full_nesting 1 s ≤ b 1 = h.nested 1 1 (omega arith) in
+      omega arith;
 }
 
 do_plain : (n : ℕ) (b : ℕ → ℕ) (x : Expr) (s : Stmt) → PlainCore n x → Plain b s → Plain (λ m. in_branch (max (max n (in_branch 1)) (b (max n (in_branch 1))))) (core.Do s x)
@@ -90,9 +87,9 @@ do_plain n b x s t h = record {
   bare = h.bare;
   short = and_true t.short h.short;
   nested = λ l m i.
-    let d : branching x ≤ n = t.turns in
-    let e : full_nesting (max (branching x) (in_branch 1)) s ≤ b (max n (in_branch 1)) = h.nested (max (branching x) (in_branch 1)) (max n (in_branch 1)) (omega arith) in
-    omega arith;
+      let d : branching x ≤ n = t.turns in
+      let e : full_nesting (max (branching x) (in_branch 1)) s ≤ b (max n (in_branch 1)) = h.nested (max (branching x) (in_branch 1)) (max n (in_branch 1)) (omega arith) in
+      omega arith;
 }
 
 -- a part that may be left out
@@ -111,10 +108,10 @@ for_plain x step b o p s t u h = record {
   bare = h.bare;
   short = and_true t.short (and_true u.short h.short);
   nested = λ l m i.
-    let d : test_branching o ≤ test_turns x = t.turned in
-    let f : branching_if_any p ≤ if_there_turns step = u.turned in
-    let e : full_nesting (branching_if_any p) s ≤ b (if_there_turns step) = h.nested (branching_if_any p) (if_there_turns step) f in
-    within (test_branching o) (test_turns x) (branching_if_any p) (if_there_turns step) (full_nesting (branching_if_any p) s) (b (if_there_turns step)) d f e;
+      let d : test_branching o ≤ test_turns x = t.turned in
+      let f : branching_if_any p ≤ if_there_turns step = u.turned in
+      let e : full_nesting (branching_if_any p) s ≤ b (if_there_turns step) = h.nested (branching_if_any p) (if_there_turns step) f in
+      within (test_branching o) (test_turns x) (branching_if_any p) (if_there_turns step) (full_nesting (branching_if_any p) s) (b (if_there_turns step)) d f e;
 }
   where
     within : (a b c d e f : ℕ) → a ≤ b → c ≤ d → e ≤ f → in_branch (max a (max c e)) ≤ in_branch (max b (max d f))
@@ -302,8 +299,8 @@ module _ (g : Environment) (result : CType) (s : EnvironmentShallow g) (source :
         then_has (Ss ss) (Ss (Next (Declare l) ss)) (statements g result loop ss) _ (statements_have ss h.1 loop) (λ more j.
         pure_has (Ss (Next (Declare l) ss)) (xs ++ more)
         (each_append (Plain (λ m. statements_turns m (Next (Declare l) ss))) xs more
-          (all_weaker (λ m. declared_turns l.declared) (λ m. statements_turns m (Next (Declare l) ss)) xs (λ m. omega arith) k)
-          (all_weaker (λ m. statements_turns m ss) (λ m. statements_turns m (Next (Declare l) ss)) more (λ m. omega arith) j))))
+        (all_weaker (λ m. declared_turns l.declared) (λ m. statements_turns m (Next (Declare l) ss)) xs (λ m. omega arith) k)
+        (all_weaker (λ m. statements_turns m ss) (λ m. statements_turns m (Next (Declare l) ss)) more (λ m. omega arith) j))))
     statements_have (Next x ss) h loop =
         one_then (λ m. statement_turns m x) (λ m. statements_turns m ss) (λ m. statements_turns m (Next x ss)) (λ m. omega arith) (λ m. omega arith) (statement g result loop x) (statements g result loop ss)
         (statement_has x h.0 loop) (statements_have ss h.1 loop)

@@ -1,10 +1,10 @@
 -- How deep the abstract syntax of a text nests: what bounds the depth of types, and the nesting of statements where each `&&`, `||` and `? :` is an `if` over blocks and each loop a `while` over a block.
-use Rattle.std.specs.Prelude.{ℕ, suc, pred, ◌+◌, ◌≤◌, max, Bool, true, false, if◌then◌else◌, List, [], ◌∷◌, length, Option, Some, None}
+use Rattle.std.specs.Prelude.{ℕ, suc, pred, ◌≤◌, max, Bool, true, false, if◌then◌else◌, List, [], ◌∷◌, length, Option, Some, None}
 use Rattle.std.specs.List.{AllByRecursion}
 use Rattle.c_words.specs.declared.word.Word.{Word}
 use Rattle.c_words.specs.declared.word.Word.TheVariants as w
 use Rattle.step_meaning.specs.Sources.{in_branch}
-use Rattle.typing_rules.specs.Syntax.{Spelled, Expression, Expressions, Name, Number, Character, Paren, Call, Index, Member, Arrow, Increment, Decrement, Prefix, Cast, SizeOf, SizeOfType, Binary, Choose, Assign, NoMore, Then, Modifier, Declarator, Initialiser, Initialisers, Value, Braces, NoElement, Element, Declared, Parameter, Local, Statement, Nothing, Evaluate, Block, Declare, If, IfElse, While, Do, For, Break, Continue, Return, Ghost, Assert, Statements, End, Next, ForFirst, NoFirst, FirstValue, FirstLocal, Members, Item, Struct, Variables, Function, Meta, GhostVariable}
+use Rattle.typing_rules.specs.Syntax.{Expression, Expressions, Name, Number, Character, Paren, Call, Index, Member, Arrow, Increment, Decrement, Prefix, Cast, SizeOf, SizeOfType, Binary, Choose, Assign, NoMore, Then, Declarator, Initialiser, Initialisers, Value, Braces, NoElement, Element, Declared, Statement, Nothing, Evaluate, Block, Declare, If, IfElse, While, Do, For, Break, Continue, Return, Ghost, Assert, Statements, End, Next, ForFirst, NoFirst, FirstValue, FirstLocal, Item, Struct, Variables, Function, Meta, GhostVariable}
 use Rattle.typing_laws.specs.ParsedSyntax.{IfThere}
 
 -- ---- expressions

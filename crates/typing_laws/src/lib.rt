@@ -2,7 +2,7 @@
 #![tactic(auto)]
 
 ghost use Rattle.typing_laws.specs.SmallPrograms.{ProgramsAreSmall};
-ghost use Rattle.typing_laws.specs.Soundness.{CoresAreFormed};
+ghost use Rattle.typing_laws.specs.Soundness.{CoresAreFormed, CoresAreSources};
 ghost use Rattle.typing_laws.specs.SmallTypes.{OperandsAreSmall};
 
 /// Where the names in view have small types and the structs are small, so has each operand of an expression.
@@ -18,4 +18,9 @@ pub fn programs_are_small()
 /// The core of a parsed text that breaks no rule is well formed.
 pub fn cores_are_formed()
     ensures { CoresAreFormed }
+{}
+
+/// That of a parsed text of a source, which nests at most 64 deep, is the core of a source.
+pub fn cores_are_sources()
+    ensures { CoresAreSources }
 {}
