@@ -1,30 +1,27 @@
 -- Address constants: parts of variables of file scope, and where they lie.
-use Rattle.std.proofs.Common.{◌≡◌, ℕ, zero, suc, ◌+◌, ◌*◌, ◌<◌, ◌≤◌, Bool, true, false, ◌&&◌, ◌||◌, not, List, [], ◌∷◌, ◌++◌, map, length, flat_map, sum_by, Option, Some, None, refl, sym, ap, subst, ◌∙◌, arith, length-append, mul-le-mul_right}
-use Rattle.std.specs.Prelude.{◌==◌, pos, nat_lt, slice_get, option_and_then, option_map, if◌then◌else◌}
+use Rattle.std.proofs.Common.{◌≡◌, ℕ, suc, ◌+◌, ◌*◌, ◌<◌, ◌≤◌, true, false, List, [], ◌∷◌, ◌++◌, map, length, flat_map, sum_by, Option, Some, None, refl, sym, ap, subst, ◌∙◌, arith, length-append, mul-le-mul_right}
+use Rattle.std.specs.Prelude.{◌==◌, pos, nat_lt, slice_get}
 use Rattle.std.specs.List.{list_all, AllByRecursion}
-use Rattle.std.proofs.lemmas.Bool.{ltb-true, leb-true, eqb-true}
+use Rattle.std.proofs.lemmas.Bool.{ltb-true, eqb-true}
 use Rattle.std.proofs.lemmas.List.Sums.{sum_by-cons}
 use Rattle.step_meaning.specs.declared.value.CType.{CType, end_of-CType, more_of-CType}
 use Rattle.step_meaning.specs.declared.value.CType.TheVariants as type
 use Rattle.step_meaning.specs.declared.value.NameKind.{NameKind}
 use Rattle.step_meaning.specs.declared.value.NameKind.TheVariants as names
-use Rattle.step_meaning.specs.declared.value.Value.{Value}
 use Rattle.step_meaning.specs.declared.expr.Variable.{Variable}
-use Rattle.step_meaning.specs.declared.expr.Expr.{Expr, end_of-Expr, more_of-Expr}
-use Rattle.step_meaning.specs.declared.expr.Expr.TheVariants.{Literal, Own, Deref', Member', Index'}
+use Rattle.step_meaning.specs.declared.expr.Expr.{end_of-Expr, more_of-Expr}
+use Rattle.step_meaning.specs.declared.expr.Expr.TheVariants.{Literal, Own, Member', Index'}
 use Rattle.step_meaning.specs.declared.expr.Place_.{Place_, end_of-Place_, more_of-Place_}
-use Rattle.step_meaning.specs.declared.program.Core.{Core}
 use Rattle.step_meaning.specs.declared.program.Declared.{Declared as Named}
 use Rattle.step_meaning.specs.declared.program.Layout.{Layout}
 use Rattle.step_meaning.specs.Names.{same_kind}
-use Rattle.step_meaning.specs.Types.{same_type, times, object_cells, where_true}
+use Rattle.step_meaning.specs.Types.{object_cells}
 use Rattle.step_meaning.specs.TypeRules.{cells, are_layouts, keeps_rules, member_from, member_type, element_type}
 use Rattle.step_meaning.specs.InitialValues.{element_count, HasPart, itself, in_element, in_member}
 use Rattle.step_meaning.proofs.Ranges.{false_is_not_true, left_of_and, right_of_and}
-use Rattle.step_meaning.proofs.SameTypes.{same_itself, same_type_equal, number_same}
+use Rattle.step_meaning.proofs.SameTypes.{same_itself, same_type_equal}
 use Rattle.step_meaning.proofs.LaterLayouts.{member_types_keep}
 use Rattle.step_meaning.proofs.TypedMemory.{WhereSome, get_fits}
-use Rattle.core_types.proofs.MemberLaws.{has_cell}
 use Rattle.core_types.proofs.SizeLaws.{times_length}
 use Rattle.typing_rules.specs.ConstantExpressions.{Part, member_part, element_part, part_of}
 use Rattle.typing_laws.proofs.CheckedValues.{if_holds, some_then, some_mapped, some_known, where_some}

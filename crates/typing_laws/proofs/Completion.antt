@@ -1,39 +1,33 @@
 -- A program up to some item, and the core that it becomes: what is declared stays in its place, and each function whose name has a body in the text has one.
-use Rattle.std.proofs.Common.{◌≡◌, ℕ, zero, suc, ◌+◌, ◌<◌, ◌≤◌, Bool, true, false, ◌&&◌, not, List, [], ◌∷◌, ◌++◌, length, Option, Some, None, refl, sym, ap, subst, ◌∙◌, arith, append_assoc}
-use Rattle.std.specs.Prelude.{◌==◌, slice_get, codes, option_map, is_some, if◌then◌else◌}
+use Rattle.std.proofs.Common.{◌≡◌, ℕ, zero, suc, Bool, true, false, List, [], ◌∷◌, ◌++◌, length, Option, Some, None, refl, sym, ap, subst, ◌∙◌, append_assoc}
+use Rattle.std.specs.Prelude.{◌==◌, slice_get, codes, option_map}
 use Rattle.std.specs.List.{AllByRecursion}
 use Rattle.std.specs.Str.{bytes_eq}
 use Rattle.std.proofs.lemmas.Bool.{eqb-true}
 use Rattle.std.proofs.lemmas.Slice.Eq.{bytes_eq-Decides}
 use Rattle.step_meaning.specs.declared.value.CType.{CType}
-use Rattle.step_meaning.specs.declared.value.CType.TheVariants as type
-use Rattle.step_meaning.specs.declared.value.NameKind.{NameKind}
 use Rattle.step_meaning.specs.declared.value.NameKind.TheVariants as names
-use Rattle.step_meaning.specs.declared.expr.Variable.{Variable}
 use Rattle.step_meaning.specs.declared.program.Core.{Core}
 use Rattle.step_meaning.specs.declared.program.Declared.{Declared as Named}
 use Rattle.step_meaning.specs.declared.program.Function.{Function as CoreFunction}
 use Rattle.step_meaning.specs.declared.program.Layout.{Layout}
-use Rattle.step_meaning.specs.Settings.{Setting, variables, variable_type}
+use Rattle.step_meaning.specs.Settings.{Setting, variables}
 use Rattle.step_meaning.specs.Names.{same_kind}
 use Rattle.step_meaning.specs.TypeRules.{keeps_rules, are_layouts}
 use Rattle.step_meaning.specs.ExpressionTypes.{parameter_types, has_body}
-use Rattle.step_meaning.specs.ExpressionTypes as core_types
 use Rattle.step_meaning.specs.Library.{int}
-use Rattle.step_meaning.proofs.Ranges.{false_is_not_true}
 use Rattle.step_meaning.proofs.TypedMemory.{WhereSome, get_fits}
 use Rattle.typing_rules.specs.declared.operand.Entry.{Entry}
 use Rattle.typing_rules.specs.declared.operand.Entry.TheVariants as entry
 use Rattle.typing_rules.specs.Environment.{Environment, Scope, contains, found_in, or_else, found}
 use Rattle.typing_rules.specs.Declarations.{is_complete}
 use Rattle.typing_rules.specs.Statements.{Frame, seen as seen_in_body}
-use Rattle.typing_rules.specs.FileScope.{Program, numbered, variable_entry, function_entry, file_scope, tags, seen_now}
-use Rattle.typing_rules.specs.Expressions.{is_library_number}
-use Rattle.typing_laws.proofs.CheckedValues.{where_some, some_known, if_holds}
+use Rattle.typing_rules.specs.FileScope.{Program, numbered, variable_entry, function_entry, file_scope, seen_now}
+use Rattle.typing_laws.proofs.CheckedValues.{where_some, if_holds}
 use Rattle.typing_laws.proofs.EachOf.{each_append, each_weaker}
 use Rattle.typing_laws.proofs.SmallPrograms.{tags_counted}
 use Rattle.typing_laws.proofs.TypedValues.{is_value_type}
-use Rattle.typing_laws.proofs.TypedExpressions.{FunctionFits, EntryFits, NameFits, Agrees}
+use Rattle.typing_laws.proofs.TypedExpressions.{FunctionFits, NameFits, Agrees}
 use Rattle.typing_laws.proofs.LaterStructs.{object_complete, get_some, cells_stay, allocation_stays, members_stay}
 
 -- ---- what a program keeps, whatever comes after it

@@ -1,20 +1,18 @@
 -- The value of a constant expression lies in the range of its type.
-use Rattle.std.proofs.Common.{◌≡◌, ℕ, Bool, true, false, ◌&&◌, ◌||◌, not, List, Option, Some, None, Ok, Err, refl, sym, ap, subst, ◌∙◌}
+use Rattle.std.proofs.Common.{◌≡◌, Bool, true, false, ◌&&◌, ◌||◌, not, Option, Some, None, Ok, Err, refl, sym, subst}
 use Rattle.std.specs.Prelude.{ℤ, pos, int_le, option_and_then, option_map, if◌then◌else◌}
 use Rattle.step_meaning.specs.declared.value.IntKind.{IntKind}
 use Rattle.step_meaning.specs.declared.value.IntKind.TheVariants as kind
-use Rattle.step_meaning.specs.declared.value.CType.{CType, end_of-CType, more_of-CType}
+use Rattle.step_meaning.specs.declared.value.CType.{CType}
 use Rattle.step_meaning.specs.declared.value.CType.TheVariants as type
-use Rattle.step_meaning.specs.declared.value.RunFault.{RunFault}
 use Rattle.step_meaning.specs.declared.expr.Expr.{Expr, end_of-Expr, more_of-Expr}
-use Rattle.step_meaning.specs.declared.expr.Expr.TheVariants.{Literal, Null, Convert', Unary', Binary', Compare', Not', Both', Either', Choose'}
+use Rattle.step_meaning.specs.declared.expr.Expr.TheVariants.{Literal, Convert', Unary', Binary', Compare', Not', Both', Either', Choose'}
 use Rattle.step_meaning.specs.declared.program.Core.{Core}
 use Rattle.step_meaning.specs.Numbers.{is_in_range, converted, binary_of, unary_of, compared_integers, is_zero}
 use Rattle.step_meaning.specs.Numbers as numbers
-use Rattle.step_meaning.specs.Types.{same_type}
 use Rattle.step_meaning.specs.Settings.{Setting}
 use Rattle.step_meaning.specs.Conversions.{same_int_kind, is_promoted}
-use Rattle.step_meaning.specs.ExpressionTypes.{type_of, has_kind, has_integer_type, has_promoted_kind, has_pointer_type, has_scalar_type, is_null_constant, is_shift, are_of_one_kind, are_of_one_pointer, are_void, are_comparable, is_pointer_beside_null, choice_type, converted_type}
+use Rattle.step_meaning.specs.ExpressionTypes.{type_of, has_kind, has_integer_type, has_promoted_kind, has_scalar_type, is_null_constant, is_shift, are_of_one_kind, are_of_one_pointer, are_void, are_comparable, is_pointer_beside_null, choice_type, converted_type}
 use Rattle.step_meaning.proofs.Ranges.{converted_in_range, false_is_not_true, left_of_and, right_of_and}
 use Rattle.step_meaning.proofs.SameTypes.{same_type_equal}
 use Rattle.step_meaning.proofs.OperatorRanges.{OnOk, InRange, binary_fits, unary_fits}

@@ -1,5 +1,5 @@
 -- The types that declarators give keep the rules, where they are complete and within the limit.
-use Rattle.std.proofs.Common.{◌≡◌, ℕ, zero, suc, ◌≤◌, Bool, true, false, ◌&&◌, List, [], ◌∷◌, length, Option, Some, None, Ok, Err, refl, sym, subst, ◌∙◌, arith}
+use Rattle.std.proofs.Common.{◌≡◌, ℕ, zero, suc, true, List, [], ◌∷◌, length, Option, Some, None, refl, ◌∙◌, arith}
 use Rattle.std.specs.Prelude.{ℤ, pos, negsuc, nat_le}
 use Rattle.std.specs.List.{AllByRecursion}
 use Rattle.std.proofs.lemmas.Bool.{le-leb}
@@ -8,10 +8,10 @@ use Rattle.c_grammar.specs.declared.types.Specifier.TheVariants as sp
 use Rattle.step_meaning.specs.declared.value.CType.{CType}
 use Rattle.step_meaning.specs.declared.expr.Expr.{Expr}
 use Rattle.step_meaning.specs.declared.program.Layout.{Layout}
-use Rattle.step_meaning.specs.TypeRules.{keeps_rules, is_object_type}
+use Rattle.step_meaning.specs.TypeRules.{is_object_type}
 use Rattle.step_meaning.proofs.Ranges.{and_true}
 use Rattle.step_meaning.proofs.TypedMemory.{WhereSome}
-use Rattle.typing_rules.specs.Checked.{Checked, ◌>>=◌, kept}
+use Rattle.typing_rules.specs.Checked.{kept}
 use Rattle.typing_rules.specs.Syntax.{Expression, Modifier, PointerTo, ArrayUnsized, ArrayOf, Initialiser, Value, Braces, Initialisers, NoElement, Element}
 use Rattle.typing_rules.specs.Operands as operands
 use Rattle.typing_rules.specs.Environment.{Environment, specified}

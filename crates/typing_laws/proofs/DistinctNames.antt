@@ -1,17 +1,16 @@
 -- Lists of distinct names, and one more name.
-use Rattle.std.proofs.Common.{◌≡◌, ℕ, zero, suc, Bool, true, false, ◌&&◌, ◌||◌, not, List, [], ◌∷◌, ◌++◌, map, take, drop, length, Option, Some, None, refl, sym, ap, subst, ◌∙◌}
-use Rattle.std.specs.Prelude.{slice_get, is_some, if◌then◌else◌, IsTrue}
-use Rattle.std.specs.List.{list_any, list_all, AllByRecursion}
+use Rattle.std.proofs.Common.{◌≡◌, ℕ, zero, suc, Bool, true, false, not, List, [], ◌∷◌, ◌++◌, map, Some, None, refl, sym, ap, subst, ◌∙◌}
+use Rattle.std.specs.Prelude.{slice_get, is_some, if◌then◌else◌}
+use Rattle.std.specs.List.{list_any, AllByRecursion}
 use Rattle.std.specs.Str.{bytes_eq}
 use Rattle.step_meaning.specs.declared.program.Function.{Function as CoreFunction}
-use Rattle.step_meaning.specs.Identifiers.{is_name, are_distinct}
-use Rattle.step_meaning.proofs.Ranges.{and_true, left_of_and, right_of_and, false_is_not_true}
+use Rattle.step_meaning.specs.Identifiers.{are_distinct}
+use Rattle.step_meaning.proofs.Ranges.{and_true, left_of_and, right_of_and}
 use Rattle.typing_rules.specs.declared.operand.Entry.{Entry}
-use Rattle.typing_rules.specs.Environment.{Scope, found_in, contains}
+use Rattle.typing_rules.specs.Environment.{Scope, found_in}
 use Rattle.typing_rules.specs.FileScope.{numbered}
 use Rattle.typing_rules.specs.Functions.{replaced}
 use Rattle.typing_laws.proofs.Completion.{bytes_same, bytes_itself}
-use Rattle.typing_laws.proofs.DeclaredNames.{not_false}
 use Rattle.typing_laws.proofs.Positions.{false_or_left, false_or_right}
 
 pub differ_turned : (a b : List ℕ) → bytes_eq a b ≡ false → bytes_eq b a ≡ false

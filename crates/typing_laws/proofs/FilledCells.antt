@@ -1,6 +1,6 @@
 -- An initialiser gives one part for each cell of the object, in ascending order.
-use Rattle.std.proofs.Common.{◌≡◌, ℕ, zero, suc, ◌+◌, ◌<◌, ◌≤◌, Bool, true, false, ◌&&◌, not, List, [], ◌∷◌, ◌++◌, map, replicate, length, flat_map, Option, Some, None, Ok, Err, refl, sym, ap, subst, ◌∙◌, arith, append-nil}
-use Rattle.std.specs.Prelude.{slice_get, if◌then◌else◌}
+use Rattle.std.proofs.Common.{◌≡◌, ℕ, zero, suc, ◌<◌, true, false, not, List, [], ◌∷◌, ◌++◌, map, length, flat_map, Some, refl, sym, subst, arith, append-nil}
+use Rattle.std.specs.Prelude.{slice_get}
 use Rattle.std.specs.List.{list_all, AllByRecursion}
 use Rattle.std.proofs.lemmas.Bool.{ltb-true}
 use Rattle.c_lexer.specs.declared.token.Place.{Place}
@@ -11,15 +11,14 @@ use Rattle.step_meaning.specs.declared.program.Core.{Core}
 use Rattle.step_meaning.specs.declared.program.Declared.{Declared as Named}
 use Rattle.step_meaning.specs.declared.program.Layout.{Layout}
 use Rattle.step_meaning.specs.Settings.{Setting}
-use Rattle.step_meaning.specs.Types.{times, object_cells}
+use Rattle.step_meaning.specs.Types.{object_cells}
 use Rattle.step_meaning.specs.TypeRules.{is_scalar, are_layouts, keeps_rules}
 use Rattle.step_meaning.proofs.Ranges.{false_is_not_true, left_of_and, right_of_and}
 use Rattle.step_meaning.proofs.LaterLayouts.{member_types_keep}
 use Rattle.typing_rules.specs.declared.fault.TypeFault.TheVariants.{BadInitialiser}
-use Rattle.typing_rules.specs.declared.operand.Value.{Value}
-use Rattle.typing_rules.specs.Checked.{Checked, ◌>>=◌, unless}
+use Rattle.typing_rules.specs.Checked.{Checked, unless}
 use Rattle.typing_rules.specs.Syntax.{Initialiser, Value as OneValue, Braces, Initialisers, NoElement, Element}
-use Rattle.typing_rules.specs.Environment.{Environment, place_of}
+use Rattle.typing_rules.specs.Environment.{Environment}
 use Rattle.typing_rules.specs.Operands.{fitted}
 use Rattle.typing_rules.specs.Expressions.{full}
 use Rattle.typing_rules.specs.Initialisers.{parts, is_all_zero, zeros, alone, all_alone, first}
@@ -28,7 +27,6 @@ use Rattle.typing_laws.specs.SmallTypes.{WhereOk}
 use Rattle.typing_laws.specs.ParsedSyntax.{InitialiserParsed, InitialisersParsed}
 use Rattle.typing_laws.proofs.CheckedValues.{then_holds, then_known, if_holds}
 use Rattle.typing_laws.proofs.DeclaredNames.{not_false, unless_holds}
-use Rattle.typing_laws.proofs.EachOf.{all_each}
 use Rattle.typing_laws.proofs.ObjectParts.{AreScalars, cells_scalar, struct_parts, array_parts, each_replicated}
 use Rattle.typing_laws.proofs.TypedValues.{ValueFits}
 use Rattle.typing_laws.proofs.TypedOperators.{IsTaken, fitted_fits}

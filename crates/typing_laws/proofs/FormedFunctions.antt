@@ -1,23 +1,20 @@
 -- Functions of a program are well formed in the core that it becomes.
-use Rattle.std.proofs.Common.{◌≡◌, ℕ, zero, suc, ◌+◌, ◌<◌, ◌≤◌, Bool, true, false, ◌&&◌, ◌||◌, not, List, [], ◌∷◌, ◌++◌, map, take, drop, length, Option, Some, None, Ok, Err, refl, sym, ap, subst, ◌∙◌, arith, append_assoc, append-nil, length-append}
-use Rattle.std.specs.Prelude.{nat_le, slice_get, option_map, IsTrue}
+use Rattle.std.proofs.Common.{◌≡◌, ℕ, suc, ◌≤◌, true, false, ◌&&◌, List, [], ◌∷◌, ◌++◌, map, take, length, Ok, refl, sym, ap, subst, ◌∙◌, arith, append_assoc, append-nil, length-append}
+use Rattle.std.specs.Prelude.{option_map}
 use Rattle.std.specs.List.{list_all, AllByRecursion}
 use Rattle.std.proofs.lemmas.Bool.{le-leb}
 use Rattle.std.proofs.lemmas.List.{length-map}
-use Rattle.step_meaning.specs.declared.value.CType.{CType, end_of-CType, more_of-CType}
+use Rattle.step_meaning.specs.declared.value.CType.{CType}
 use Rattle.step_meaning.specs.declared.value.CType.TheVariants as type
 use Rattle.step_meaning.specs.declared.value.NameKind.TheVariants as names
-use Rattle.step_meaning.specs.declared.expr.Variable.{Variable}
 use Rattle.step_meaning.specs.declared.stmt.Stmt.{Stmt}
 use Rattle.step_meaning.specs.declared.stmt.Stmt.TheVariants as core
 use Rattle.step_meaning.specs.declared.program.Core.{Core}
 use Rattle.step_meaning.specs.declared.program.Declared.{Declared as Named}
 use Rattle.step_meaning.specs.declared.program.Function.{Function as CoreFunction}
 use Rattle.step_meaning.specs.declared.program.Layout.{Layout}
-use Rattle.step_meaning.specs.Settings.{Setting, setting_of, leading_setting}
-use Rattle.step_meaning.specs.Types.{same_type}
-use Rattle.step_meaning.specs.TypeRules.{is_scalar, is_spelled, keeps_rules, is_scalar_type, is_result_type}
-use Rattle.step_meaning.specs.ExpressionTypes.{parameter_types}
+use Rattle.step_meaning.specs.Settings.{setting_of, leading_setting}
+use Rattle.step_meaning.specs.TypeRules.{is_spelled, keeps_rules, is_scalar_type, is_result_type}
 use Rattle.step_meaning.specs.StatementRules.{StatementFits, BodyFits}
 use Rattle.step_meaning.specs.StatementRules as rules
 use Rattle.step_meaning.specs.Calls.{annotations, after_annotations}
@@ -26,21 +23,18 @@ use Rattle.step_meaning.specs.WellFormed.{IsWellFormedFunction, declared_names}
 use Rattle.step_meaning.proofs.Ranges.{false_is_not_true, and_true, left_of_and, right_of_and}
 use Rattle.step_meaning.proofs.SameTypes.{same_type_equal}
 use Rattle.step_meaning.proofs.LaterLayouts.{still_keeps}
-use Rattle.typing_rules.specs.declared.operand.Entry.{Entry}
 use Rattle.typing_rules.specs.declared.operand.Entry.TheVariants as entry
-use Rattle.typing_rules.specs.Checked.{Checked}
 use Rattle.typing_rules.specs.Syntax.{Statements}
-use Rattle.typing_rules.specs.Environment.{Scope}
 use Rattle.typing_rules.specs.Statements.{Frame, statements}
 use Rattle.typing_rules.specs.FileScope.{Program, seen_now}
 use Rattle.typing_rules.specs.Functions.{declared_name, parameter_entries, parameter_scope, types_of, are_same, without_name, prototype, defined_function}
 use Rattle.typing_laws.specs.ParsedSyntax.{StatementsParsed}
 use Rattle.typing_laws.proofs.CheckedValues.{where_ok}
-use Rattle.typing_laws.proofs.EachOf.{each_append, each_weaker, each_all}
+use Rattle.typing_laws.proofs.EachOf.{each_append, each_weaker}
 use Rattle.typing_laws.proofs.SignatureTypes.{ResultRight, ParameterRight, ParametersRight, HaveNames}
 use Rattle.typing_laws.proofs.LaterStructs.{object_complete}
-use Rattle.typing_laws.proofs.Completion.{IsRight, Completes, get_at, IsLocal, AreLocals}
-use Rattle.typing_laws.proofs.KeptFrames.{Nothing, FrameRight, InView, Grows, After}
+use Rattle.typing_laws.proofs.Completion.{IsRight, Completes, get_at, IsLocal}
+use Rattle.typing_laws.proofs.KeptFrames.{Nothing, FrameRight, After}
 use Rattle.typing_laws.proofs.KeptDeclarations.{Fits, AllFit}
 use Rattle.typing_laws.proofs.KeptStatements.{statements_keep}
 

@@ -1,7 +1,7 @@
 -- Declarations and definitions of functions keep a program good.
-use Rattle.std.proofs.Common.{◌≡◌, ℕ, zero, suc, ◌+◌, ◌<◌, ◌≤◌, Bool, true, false, ◌&&◌, ◌||◌, not, List, [], ◌∷◌, ◌++◌, map, take, drop, length, Option, Some, None, Ok, Err, refl, sym, ap, subst, ◌∙◌, arith, append_assoc, append-nil}
-use Rattle.std.specs.Prelude.{slice_get, codes, position, is_some}
-use Rattle.std.specs.List.{list_any, AllByRecursion}
+use Rattle.std.proofs.Common.{◌≡◌, ℕ, zero, suc, Bool, true, false, ◌&&◌, ◌||◌, not, List, [], ◌∷◌, ◌++◌, map, take, length, Option, Some, None, Ok, refl, sym, ap, subst, ◌∙◌, append_assoc}
+use Rattle.std.specs.Prelude.{slice_get, codes, is_some}
+use Rattle.std.specs.List.{AllByRecursion}
 use Rattle.std.specs.Str.{bytes_eq}
 use Rattle.c_words.specs.declared.word.Leaf.{Leaf}
 use Rattle.step_meaning.specs.declared.value.CType.{CType}
@@ -13,20 +13,20 @@ use Rattle.step_meaning.specs.Types.{same_type}
 use Rattle.step_meaning.specs.ExpressionTypes.{is_void, parameter_types, has_body}
 use Rattle.step_meaning.specs.WellFormed.{IsWellFormedFunction}
 use Rattle.step_meaning.specs.Library.{int}
-use Rattle.step_meaning.proofs.Ranges.{false_is_not_true, and_true, left_of_and, right_of_and}
+use Rattle.step_meaning.proofs.Ranges.{false_is_not_true, left_of_and, right_of_and}
 use Rattle.step_meaning.proofs.SameTypes.{same_type_equal}
 use Rattle.step_meaning.proofs.TypedMemory.{get_fits}
 use Rattle.typing_laws.proofs.GrownFrames.{Longer, statements_grow}
 use Rattle.typing_rules.specs.Checked.{Checked, ◌>>=◌}
 use Rattle.typing_rules.specs.Syntax.{Spelled, Parameter, Statements}
-use Rattle.typing_rules.specs.Environment.{place_of, is_reserved, spelled_type}
-use Rattle.typing_rules.specs.Declarations.{is_struct, is_complete, is_complete_in}
+use Rattle.typing_rules.specs.Environment.{is_reserved, spelled_type}
+use Rattle.typing_rules.specs.Declarations.{is_struct, is_complete}
 use Rattle.typing_rules.specs.Statements.{Frame, statements}
 use Rattle.typing_rules.specs.FileScope.{Program, seen_now, bytes}
 use Rattle.typing_rules.specs.Functions.{is_library, declares_allocation, parameters, function_number, types_of, are_same, contradicts, contradicts_earlier, is_variable, is_other_main, is_wrong_result, declarable_function, prototype, defined_function, with_function, number_or, replaced, defined_as, function}
 use Rattle.typing_rules.specs.Programs.{library}
 use Rattle.typing_laws.specs.SmallTypes.{WhereOk}
-use Rattle.typing_laws.specs.ParsedSyntax.{BodyParsed, StatementsParsed, IsNamed}
+use Rattle.typing_laws.specs.ParsedSyntax.{BodyParsed, StatementsParsed}
 use Rattle.typing_laws.proofs.CheckedValues.{then_holds, then_known, weaker, where_ok, where_some}
 use Rattle.typing_laws.proofs.EachOf.{each_append, each_take, each_drop}
 use Rattle.typing_laws.proofs.DeclaredNames.{not_false, none_then, none_left}
@@ -35,7 +35,7 @@ use Rattle.typing_laws.proofs.Positions.{FoundAt, found_at, none_passes, any_non
 use Rattle.typing_laws.proofs.TypedValues.{is_value_type}
 use Rattle.typing_laws.proofs.SignatureTypes.{no_array, spelled_no_array, ResultRight, result_right, ParametersRight, parameters_right, HaveNames, parameters_named}
 use Rattle.typing_laws.proofs.Completion.{IsLibrary, IsRight, Completes, bytes_same, bytes_itself, get_at}
-use Rattle.typing_laws.proofs.GrowingPrograms.{SoundIn, Good, Leads, Goes, SameSignature, prototype_leads, replaced_leads}
+use Rattle.typing_laws.proofs.GrowingPrograms.{SoundIn, Good, Goes, SameSignature, prototype_leads, replaced_leads}
 use Rattle.typing_laws.proofs.FormedFunctions.{prototype_types, first_types, types_equal, prototype_formed, start_frame, defined_formed}
 
 -- ---- the rules on a declared function

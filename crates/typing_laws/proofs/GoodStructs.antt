@@ -1,34 +1,33 @@
 -- Definitions of structs keep a program good.
-use Rattle.std.proofs.Common.{◌≡◌, ℕ, zero, suc, ◌+◌, ◌<◌, ◌≤◌, Bool, true, false, ◌&&◌, not, List, [], ◌∷◌, ◌++◌, map, length, sum_by, Option, Some, None, Ok, Err, refl, sym, ap, subst, ◌∙◌, arith, append_assoc, append-nil, length-append}
+use Rattle.std.proofs.Common.{◌≡◌, ℕ, suc, ◌+◌, ◌≤◌, true, false, not, List, [], ◌∷◌, ◌++◌, length, sum_by, refl, sym, ap, subst, ◌∙◌, arith, append_assoc, append-nil, length-append}
 use Rattle.std.specs.Prelude.{nat_le}
-use Rattle.std.specs.List.{list_all, AllByRecursion}
+use Rattle.std.specs.List.{list_all}
 use Rattle.std.proofs.lemmas.Bool.{le-leb}
 use Rattle.c_words.specs.declared.word.Leaf.{Leaf}
 use Rattle.step_meaning.specs.declared.value.CType.{CType, end_of-CType, more_of-CType}
 use Rattle.step_meaning.specs.declared.value.CType.TheVariants as type
 use Rattle.step_meaning.specs.declared.program.Declared.{Declared as Named}
 use Rattle.step_meaning.specs.declared.program.Layout.{Layout}
-use Rattle.step_meaning.specs.TypeRules.{cells, most_cells, is_object_type, keeps_rules, is_layout_after, are_layouts_after, are_layouts}
+use Rattle.step_meaning.specs.TypeRules.{cells, most_cells, is_object_type, keeps_rules, is_layout_after, are_layouts_after}
 use Rattle.step_meaning.proofs.Ranges.{false_is_not_true, and_true, left_of_and, right_of_and}
 use Rattle.step_meaning.proofs.LaterLayouts.{still_keeps}
 use Rattle.typing_rules.specs.declared.fault.TypeFault.TheVariants.{TooLarge}
-use Rattle.typing_rules.specs.Checked.{Checked, ◌>>=◌, unless}
+use Rattle.typing_rules.specs.Checked.{unless}
 use Rattle.typing_rules.specs.Syntax.{Declarator, Members}
 use Rattle.typing_rules.specs.Environment.{Environment, place_of, bytes_in, is_reserved, specified}
-use Rattle.typing_rules.specs.Declarations.{layers, layered, is_complete, is_complete_in, declarable}
+use Rattle.typing_rules.specs.Declarations.{layers, layered, is_complete, is_complete_in}
 use Rattle.typing_rules.specs.FileScope.{Program, tags, seen, bytes}
 use Rattle.typing_rules.specs.Structs.{has_member, member, member_list, all_members, tag_declarable, with_layout, structure}
 use Rattle.typing_rules.proofs.ObjectTypes.{has_elements}
 use Rattle.typing_laws.specs.SmallTypes.{WhereOk}
 use Rattle.typing_laws.specs.ParsedSyntax.{DeclaresSome, HasMember}
-use Rattle.typing_laws.proofs.CheckedValues.{then_holds, then_known, weaker}
+use Rattle.typing_laws.proofs.CheckedValues.{then_holds, then_known}
 use Rattle.typing_laws.proofs.EachOf.{each_weaker, all_append}
 use Rattle.typing_laws.proofs.DeclaredNames.{not_false, declared_then, unless_holds}
 use Rattle.typing_laws.proofs.DeclaredTypes.{HaveSizes, layers_fit, layered_elements, specified_elements, declared_keeps}
 use Rattle.typing_laws.proofs.LaterTypes.{still_complete}
 use Rattle.typing_laws.proofs.SmallPrograms.{tags_counted}
 use Rattle.typing_laws.proofs.TypedValues.{is_value_type}
-use Rattle.typing_laws.proofs.Completion.{IsRight}
 use Rattle.typing_laws.proofs.GrowingPrograms.{Good, Goes, layout_leads}
 
 -- ---- members

@@ -1,39 +1,35 @@
 -- Variables of file scope keep a program good.
-use Rattle.std.proofs.Common.{◌≡◌, ℕ, zero, suc, ◌+◌, ◌<◌, ◌≤◌, Bool, true, false, ◌&&◌, ◌||◌, not, List, [], ◌∷◌, ◌++◌, map, length, Option, Some, None, Ok, Err, refl, sym, ap, subst, ◌∙◌, arith, append_assoc, append-nil, length-append}
-use Rattle.std.specs.List.{AllByRecursion}
+use Rattle.std.proofs.Common.{◌≡◌, ℕ, suc, ◌+◌, true, false, ◌||◌, not, List, [], ◌∷◌, ◌++◌, length, Option, Some, None, Ok, Err, refl, sym, ap, subst, ◌∙◌, arith, length-append}
 use Rattle.step_meaning.specs.declared.value.CType.{CType}
 use Rattle.step_meaning.specs.declared.value.Value.{Value}
 use Rattle.step_meaning.specs.declared.program.Core.{Core}
 use Rattle.step_meaning.specs.declared.program.Declared.{Declared as Named}
-use Rattle.step_meaning.specs.declared.program.Function.{Function as CoreFunction}
-use Rattle.step_meaning.specs.declared.program.Layout.{Layout}
 use Rattle.step_meaning.specs.Settings.{Setting}
 use Rattle.step_meaning.specs.Types.{object_cells}
 use Rattle.step_meaning.specs.TypeRules.{is_scalar, keeps_rules}
 use Rattle.step_meaning.specs.InitialValues.{IsInitialValue, AreInitialValues, AllInitialised}
 use Rattle.step_meaning.proofs.LaterLayouts.{same_cells}
-use Rattle.typing_rules.specs.Checked.{Checked, ◌>>=◌, kept}
+use Rattle.typing_rules.specs.Checked.{Checked, kept}
 use Rattle.typing_rules.specs.Syntax.{Declared, Initialiser}
-use Rattle.typing_rules.specs.Environment.{Environment, place_of, is_reserved}
+use Rattle.typing_rules.specs.Environment.{place_of, is_reserved}
 use Rattle.typing_rules.specs.ConstantExpressions.{initial_value}
-use Rattle.typing_rules.specs.Declarations.{layers, layered, count_of, is_complete, is_complete_in, declarable}
+use Rattle.typing_rules.specs.Declarations.{layers, layered, count_of, is_complete, is_complete_in}
 use Rattle.typing_rules.specs.Initialisers.{zero_value, initial_values, uninitialised}
-use Rattle.typing_rules.specs.FileScope.{Program, seen_now, bytes, is_known, is_main_name, first_values, with_variable, with_values, variable, variables}
+use Rattle.typing_rules.specs.FileScope.{Program, seen_now, bytes, is_known, is_main_name, first_values, with_variable, variable, variables}
 use Rattle.typing_rules.specs.declared.fault.TypeFault.TheVariants.{BadInitialiser}
-use Rattle.typing_rules.specs.Programs.{library}
 use Rattle.typing_rules.proofs.ObjectTypes.{has_elements}
 use Rattle.typing_laws.specs.SmallTypes.{WhereOk}
 use Rattle.typing_laws.specs.ParsedSyntax.{IfThere, InitialiserParsed, DeclaredParsed, AllDeclaredParsed}
 use Rattle.typing_laws.proofs.CheckedValues.{then_holds, then_known, weaker, where_ok}
 use Rattle.typing_laws.proofs.EachOf.{each_append}
-use Rattle.typing_laws.proofs.DeclaredNames.{not_false, declared_then}
+use Rattle.typing_laws.proofs.DeclaredNames.{declared_then}
 use Rattle.typing_laws.proofs.DeclaredTypes.{HaveSizes, layers_fit, layered_elements, declared_keeps, count_positive}
 use Rattle.typing_laws.proofs.SmallPrograms.{tags_counted, right_of_or}
 use Rattle.typing_laws.proofs.ObjectParts.{cells_scalar}
 use Rattle.typing_laws.proofs.FilledCells.{AreCells, cells_mapped, cells_fit}
 use Rattle.typing_laws.proofs.InitialConstants.{given_initial, zero_initial, cells_initial}
 use Rattle.typing_laws.proofs.Completion.{IsRight, Completes, file_agrees}
-use Rattle.typing_laws.proofs.GrowingPrograms.{SoundIn, Good, Leads, Goes, variable_leads, values_lead}
+use Rattle.typing_laws.proofs.GrowingPrograms.{SoundIn, Good, Goes, variable_leads, values_lead}
 
 -- what file scope sees of a core
 abbrev pub file_setting : Core → Setting

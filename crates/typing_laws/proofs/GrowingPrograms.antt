@@ -1,5 +1,5 @@
 -- A program that grows by a declaration becomes what the grown one becomes.
-use Rattle.std.proofs.Common.{◌≡◌, ℕ, zero, suc, ◌+◌, ◌<◌, ◌≤◌, Bool, true, false, ◌&&◌, not, List, [], ◌∷◌, ◌++◌, map, take, drop, length, Option, Some, None, Ok, Err, refl, sym, ap, subst, ◌∙◌, arith, append_assoc, append-nil}
+use Rattle.std.proofs.Common.{◌≡◌, ℕ, zero, suc, List, [], ◌∷◌, ◌++◌, Option, Some, None, sym, subst, ◌∙◌, append_assoc}
 use Rattle.std.specs.Prelude.{slice_get}
 use Rattle.std.specs.List.{AllByRecursion}
 use Rattle.step_meaning.specs.declared.value.CType.{CType}
@@ -7,7 +7,6 @@ use Rattle.step_meaning.specs.declared.value.Value.{Value}
 use Rattle.step_meaning.specs.declared.program.Core.{Core}
 use Rattle.step_meaning.specs.declared.program.Declared.{Declared as Named}
 use Rattle.step_meaning.specs.declared.program.Function.{Function as CoreFunction}
-use Rattle.step_meaning.specs.declared.program.Layout.{Layout}
 use Rattle.step_meaning.specs.ExpressionTypes.{parameter_types}
 use Rattle.step_meaning.specs.WellFormed.{IsWellFormedFunction}
 use Rattle.step_meaning.specs.InitialValues.{AllInitialised}
@@ -18,7 +17,7 @@ use Rattle.typing_rules.specs.Functions.{prototype, with_function, replaced}
 use Rattle.typing_rules.specs.Programs.{library}
 use Rattle.typing_laws.proofs.LaterStructs.{get_some}
 use Rattle.typing_laws.proofs.CheckedValues.{where_some, some_known}
-use Rattle.typing_laws.proofs.Completion.{IsRight, FunctionStays, Completes, get_at}
+use Rattle.typing_laws.proofs.Completion.{IsRight, FunctionStays, Completes}
 
 -- ---- what is kept of a program
 

@@ -1,5 +1,5 @@
 -- What an initialiser of file scope gives a cell is an initial value of it.
-use Rattle.std.proofs.Common.{◌≡◌, ℕ, zero, suc, ◌+◌, ◌*◌, ◌<◌, ◌≤◌, Bool, true, false, ◌&&◌, ◌||◌, not, List, [], ◌∷◌, ◌++◌, map, length, Option, Some, None, Ok, Err, refl, sym, ap, subst, ◌∙◌, arith, length-append}
+use Rattle.std.proofs.Common.{◌≡◌, ℕ, zero, suc, ◌+◌, ◌*◌, ◌<◌, ◌≤◌, Bool, true, false, ◌&&◌, ◌||◌, not, List, [], ◌∷◌, ◌++◌, length, Option, Some, None, refl, sym, ap, subst, ◌∙◌, arith}
 use Rattle.std.specs.Prelude.{pos, slice_get, option_and_then, option_map, if◌then◌else◌}
 use Rattle.std.specs.List.{AllByRecursion}
 use Rattle.std.proofs.lemmas.Bool.{leb-true}
@@ -19,23 +19,23 @@ use Rattle.step_meaning.specs.declared.expr.Variable.{Variable}
 use Rattle.step_meaning.specs.declared.program.Core.{Core}
 use Rattle.step_meaning.specs.declared.program.Declared.{Declared as Named}
 use Rattle.step_meaning.specs.declared.program.Layout.{Layout}
-use Rattle.step_meaning.specs.Types.{same_type, where_true, object_cells}
-use Rattle.step_meaning.specs.TypeRules.{cells, is_scalar, are_layouts, keeps_rules, element_type}
+use Rattle.step_meaning.specs.Types.{same_type, where_true}
+use Rattle.step_meaning.specs.TypeRules.{cells, is_scalar, are_layouts, keeps_rules}
 use Rattle.step_meaning.specs.Settings.{Setting, variables, variable_type}
 use Rattle.step_meaning.specs.Names.{same_kind}
 use Rattle.step_meaning.specs.Numbers.{is_in_range}
-use Rattle.step_meaning.specs.ExpressionTypes.{type_of, type_of_place, pointer_to, is_register, has_this_type, is_addressed_at, is_taken_by, is_null_constant}
+use Rattle.step_meaning.specs.ExpressionTypes.{type_of, type_of_place, pointer_to, is_register, has_this_type, is_addressed_at, is_taken_by}
 use Rattle.step_meaning.specs.InitialValues.{HasPart, itself, in_element, BeginsAt, IsInitialValue, AreInitialValues}
 use Rattle.step_meaning.proofs.Ranges.{false_is_not_true, left_of_and, right_of_and}
 use Rattle.step_meaning.proofs.SameTypes.{same_itself, same_type_equal, number_same}
 use Rattle.step_meaning.proofs.TypedMemory.{WhereSome, get_fits}
 use Rattle.core_types.proofs.MemberLaws.{has_cell}
 use Rattle.typing_rules.specs.declared.fault.TypeFault.TheVariants.{BadInitialiser}
-use Rattle.typing_rules.specs.Checked.{Checked, kept}
+use Rattle.typing_rules.specs.Checked.{kept}
 use Rattle.typing_rules.specs.ConstantExpressions.{Part, part_of, is_variable, pointer_at, address_of, initial_value, constant}
 use Rattle.typing_rules.specs.Initialisers.{zero_value}
 use Rattle.typing_laws.specs.SmallTypes.{WhereOk}
-use Rattle.typing_laws.proofs.CheckedValues.{kept_holds, if_holds, some_then, some_mapped, some_known, where_some}
+use Rattle.typing_laws.proofs.CheckedValues.{kept_holds, if_holds, some_then, some_mapped, where_some}
 use Rattle.typing_laws.proofs.TypedOperators.{IsTaken}
 use Rattle.typing_laws.proofs.TypedExpressions.{taken_integer}
 use Rattle.typing_laws.proofs.FilledCells.{AreCells}

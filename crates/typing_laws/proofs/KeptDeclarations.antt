@@ -1,17 +1,13 @@
 -- Declarations of a body: each name is a local of the function, and each initialiser gives statements that fit.
-use Rattle.std.proofs.Common.{◌≡◌, ℕ, zero, suc, ◌+◌, ◌≤◌, Bool, true, false, ◌&&◌, not, List, [], ◌∷◌, ◌++◌, length, Option, Some, None, Ok, Err, refl, sym, ap, subst, ◌∙◌, arith, append_assoc, append-nil, length-append}
+use Rattle.std.proofs.Common.{◌≡◌, ℕ, suc, ◌≤◌, Bool, true, false, not, List, [], ◌∷◌, ◌++◌, length, Option, Some, None, Ok, refl, sym, ap, subst, ◌∙◌, arith, append_assoc, length-append}
 use Rattle.std.specs.Prelude.{pos, nat_le, slice_get, option_map, IsTrue, is_some}
 use Rattle.std.specs.List.{AllByRecursion}
 use Rattle.std.proofs.lemmas.Bool.{leb-true, le-leb}
-use Rattle.c_lexer.specs.declared.token.Place.{Place}
 use Rattle.c_words.specs.declared.word.Leaf.{Leaf}
-use Rattle.step_meaning.specs.declared.value.IntKind.{IntKind}
 use Rattle.step_meaning.specs.declared.value.IntKind.TheVariants as kind
 use Rattle.step_meaning.specs.declared.value.CType.{CType, end_of-CType, more_of-CType}
 use Rattle.step_meaning.specs.declared.value.CType.TheVariants as type
-use Rattle.step_meaning.specs.declared.value.NameKind.TheVariants as names
 use Rattle.step_meaning.specs.declared.expr.Variable.{Variable}
-use Rattle.step_meaning.specs.declared.expr.Expr.{Expr}
 use Rattle.step_meaning.specs.declared.expr.Expr.TheVariants as e
 use Rattle.step_meaning.specs.declared.stmt.Stmt.{Stmt}
 use Rattle.step_meaning.specs.declared.stmt.Stmt.TheVariants as core
@@ -19,26 +15,23 @@ use Rattle.step_meaning.specs.declared.program.Core.{Core}
 use Rattle.step_meaning.specs.declared.program.Declared.{Declared as Named}
 use Rattle.step_meaning.specs.declared.program.Function.{Function as CoreFunction}
 use Rattle.step_meaning.specs.Settings.{Setting, variable_type}
-use Rattle.step_meaning.specs.Types.{same_type, object_cells}
+use Rattle.step_meaning.specs.Types.{object_cells}
 use Rattle.step_meaning.specs.TypeRules.{is_scalar, keeps_rules}
 use Rattle.step_meaning.specs.Conversions.{same_int_kind}
 use Rattle.step_meaning.specs.Identifiers.{is_name}
 use Rattle.step_meaning.specs.ExpressionTypes.{type_of, has_this_type, is_taken_by}
-use Rattle.step_meaning.specs.StatementRules.{own_code, cell_type, is_initialised, StatementFits}
+use Rattle.step_meaning.specs.StatementRules.{own_code, cell_type, StatementFits}
 use Rattle.step_meaning.specs.Sources.{is_bare}
-use Rattle.step_meaning.specs.Library.{int}
-use Rattle.step_meaning.proofs.Ranges.{and_true, false_is_not_true, left_of_and, right_of_and}
+use Rattle.step_meaning.proofs.Ranges.{and_true, false_is_not_true}
 use Rattle.step_meaning.proofs.SameTypes.{same_itself, same_kind_equal}
 use Rattle.step_meaning.proofs.LaterLayouts.{same_cells}
 use Rattle.typing_rules.specs.declared.operand.Entry.{Entry}
 use Rattle.typing_rules.specs.declared.operand.Entry.TheVariants as entry
-use Rattle.typing_rules.specs.Checked.{Checked, unless}
-use Rattle.typing_rules.specs.Checked.{◌>>=◌ as ◌then◌}
 use Rattle.typing_rules.specs.Syntax.{Initialiser, Declared, Local}
-use Rattle.typing_rules.specs.Environment.{Environment, Scope, place_of, bytes_in, is_reserved, found_in, specified}
-use Rattle.typing_rules.specs.Declarations.{layers, layered, count_of, is_complete, is_within_limit, is_complete_in, declarable}
+use Rattle.typing_rules.specs.Environment.{Scope, place_of, bytes_in, is_reserved, found_in, specified}
+use Rattle.typing_rules.specs.Declarations.{layers, layered, count_of, is_complete, is_within_limit, is_complete_in}
 use Rattle.typing_rules.specs.Initialisers.{Cell, zero_of, local_cells}
-use Rattle.typing_rules.specs.Statements.{Frame, Does, pure, ◌>>=◌, innermost, with_name, local_variable, declared_as, judged, init_statements, initialised, declare_one, declare_all, declare, checked, seen as seen_in_body}
+use Rattle.typing_rules.specs.Statements.{Frame, innermost, with_name, local_variable, declared_as, judged, init_statements, initialised, declare_one, declare_all, declare, checked, seen as seen_in_body}
 use Rattle.typing_rules.specs.FileScope.{Program, seen_now}
 use Rattle.typing_rules.proofs.ObjectTypes.{has_elements}
 use Rattle.typing_rules.proofs.OperandsFit.{converted_fits}
@@ -49,13 +42,13 @@ use Rattle.typing_laws.proofs.EachOf.{each_append, each_weaker}
 use Rattle.typing_laws.proofs.DeclaredNames.{not_false, declared_then}
 use Rattle.typing_laws.proofs.DeclaredTypes.{HaveSizes, layers_fit, layered_elements, specified_elements, declared_keeps, count_positive}
 use Rattle.typing_laws.proofs.SmallPrograms.{tags_counted}
-use Rattle.typing_laws.proofs.LaterStructs.{object_complete, cells_stay}
+use Rattle.typing_laws.proofs.LaterStructs.{object_complete}
 use Rattle.typing_laws.proofs.TypedCores.{taken_itself, taken_null}
 use Rattle.typing_laws.proofs.TypedOperators.{IsTaken}
 use Rattle.typing_laws.proofs.TypedExpressions.{Agrees}
 use Rattle.typing_laws.proofs.FilledCells.{AreCells, cells_fit}
 use Rattle.typing_laws.proofs.Completion.{IsRight, Completes, get_at, IsLocal, AreLocals, type_later, body_agrees}
-use Rattle.typing_laws.proofs.KeptFrames.{Nothing, FrameRight, InView, Grows, After, Keeps, grows_itself, keeps_pure, keeps_then, keeps_weaker, keeps_checked}
+use Rattle.typing_laws.proofs.KeptFrames.{Nothing, FrameRight, InView, After, Keeps, grows_itself, keeps_pure, keeps_then, keeps_weaker, keeps_checked}
 
 local_later : (ds es : List Named) (c : ℕ) (x : Entry) → IsLocal ds c x → IsLocal (ds ++ es) c x
 local_later ds es c (entry.Variable v t) h = (h.0, type_later ds es v.index t h.1, h.2)

@@ -1,14 +1,12 @@
 -- What declarations and statements keep of the names and locals of a body, one after another.
-use Rattle.std.proofs.Common.{◌≡◌, ℕ, zero, suc, ◌+◌, ◌≤◌, Bool, true, false, List, [], ◌∷◌, ◌++◌, length, Option, Some, None, Ok, Err, refl, sym, ap, subst, ◌∙◌, append_assoc, append-nil}
+use Rattle.std.proofs.Common.{◌≡◌, ℕ, true, List, [], ◌∷◌, ◌++◌, length, Ok, Err, sym, ap, ◌∙◌, append_assoc, append-nil}
 use Rattle.std.specs.Prelude.{nat_le, IsTrue}
 use Rattle.std.specs.List.{AllByRecursion}
-use Rattle.step_meaning.specs.declared.program.Core.{Core}
 use Rattle.step_meaning.specs.declared.program.Declared.{Declared as Named}
 use Rattle.step_meaning.specs.declared.program.Function.{Function as CoreFunction}
 use Rattle.step_meaning.specs.TypeRules.{keeps_rules}
 use Rattle.step_meaning.specs.Identifiers.{is_name}
 use Rattle.typing_rules.specs.Checked.{Checked}
-use Rattle.typing_rules.specs.Checked.{◌>>=◌ as ◌then◌}
 use Rattle.typing_rules.specs.Environment.{Environment, Scope}
 use Rattle.typing_rules.specs.Statements.{Frame, Does, pure, ◌>>=◌, opened, tail, closed, in_scope, seen as seen_in_body, checked}
 use Rattle.typing_rules.specs.FileScope.{Program, seen_now}

@@ -1,7 +1,5 @@
 -- Statements of a body fit in the core that the text becomes.
-use Rattle.std.proofs.Common.{◌≡◌, ℕ, zero, suc, Bool, true, false, ◌&&◌, not, List, [], ◌∷◌, ◌++◌, length, Option, Some, None, Ok, Err, refl, sym, ap, subst, ◌∙◌}
-use Rattle.std.specs.Prelude.{is_some, IsTrue}
-use Rattle.std.specs.List.{AllByRecursion}
+use Rattle.std.proofs.Common.{◌≡◌, Bool, true, false, not, List, [], ◌∷◌, ◌++◌, length, Option, Some, None, Ok, Err, refl, sym}
 use Rattle.c_words.specs.declared.word.Leaf.{Leaf}
 use Rattle.step_meaning.specs.declared.value.CType.{CType}
 use Rattle.step_meaning.specs.declared.value.CType.TheVariants as type
@@ -13,25 +11,25 @@ use Rattle.step_meaning.specs.declared.program.Core.{Core}
 use Rattle.step_meaning.specs.declared.program.Function.{Function as CoreFunction}
 use Rattle.step_meaning.specs.Settings.{Setting}
 use Rattle.step_meaning.specs.ExpressionTypes.{type_of, is_void, has_a_type, is_condition, is_taken_by}
-use Rattle.step_meaning.specs.StatementRules.{where_there, may_return, StatementFits, RowFits}
-use Rattle.step_meaning.specs.Sources.{is_bare, are_bare}
+use Rattle.step_meaning.specs.StatementRules.{where_there, may_return, RowFits}
+use Rattle.step_meaning.specs.Sources.{are_bare}
 use Rattle.step_meaning.proofs.Ranges.{and_true, false_is_not_true}
 use Rattle.typing_rules.specs.declared.operand.Value.{Value}
 use Rattle.typing_rules.specs.declared.fault.TypeFault.TheVariants.{Mismatch, StrayJump}
 use Rattle.typing_rules.specs.Checked.{Checked, unless}
 use Rattle.typing_rules.specs.Checked.{◌>>=◌ as ◌then◌}
-use Rattle.typing_rules.specs.Syntax.{Expression, Local, Statement, Nothing as NullStatement, Evaluate, Block, Declare, If, IfElse, While, Do, For, Break, Continue, Return, Ghost, Assert, Statements, End, Next, ForFirst, NoFirst, FirstValue, FirstLocal}
+use Rattle.typing_rules.specs.Syntax.{Expression, Statement, Nothing as NullStatement, Evaluate, Block, Declare, If, IfElse, While, Do, For, Break, Continue, Return, Ghost, Assert, Statements, End, Next, ForFirst, NoFirst, FirstValue, FirstLocal}
 use Rattle.typing_rules.specs.Operands as operands
 use Rattle.typing_rules.specs.Environment.{Environment, place_of}
 use Rattle.typing_rules.specs.Expressions.{full}
 use Rattle.typing_rules.specs.Statements.{Frame, Does, pure, ◌>>=◌, in_scope, declare, value, test, where_present, rule, jump, returned, first_part, scoped, with_first, statement, statements, checked, seen as seen_in_body}
 use Rattle.typing_rules.specs.FileScope.{Program, seen_now}
 use Rattle.typing_laws.specs.SmallTypes.{WhereOk}
-use Rattle.typing_laws.specs.ParsedSyntax.{IfThere, ExpressionParsed, LocalParsed, ForFirstParsed, StatementParsed, StatementsParsed}
-use Rattle.typing_laws.proofs.CheckedValues.{then_holds, then_known, weaker, always}
+use Rattle.typing_laws.specs.ParsedSyntax.{IfThere, ExpressionParsed, ForFirstParsed, StatementParsed, StatementsParsed}
+use Rattle.typing_laws.proofs.CheckedValues.{then_holds, always}
 use Rattle.typing_laws.proofs.DeclaredNames.{not_false, unless_holds}
 use Rattle.typing_laws.proofs.EachOf.{each_append}
-use Rattle.typing_laws.proofs.TypedValues.{ValueFits, IsCondition, condition_fits}
+use Rattle.typing_laws.proofs.TypedValues.{ValueFits, condition_fits}
 use Rattle.typing_laws.proofs.TypedOperators.{IsTaken, fitted_fits}
 use Rattle.typing_laws.proofs.TypedExpressions.{full_fits}
 use Rattle.typing_laws.proofs.Completion.{IsRight, Completes}

@@ -1,5 +1,5 @@
 -- What a program with further structs tells of the types that stand here: cells, members, and what may be allocated.
-use Rattle.std.proofs.Common.{◌≡◌, ℕ, suc, zero, ◌+◌, ◌<◌, ◌≤◌, Bool, true, ◌&&◌, List, [], ◌∷◌, ◌++◌, length, take, sum_by, Option, Some, None, refl, sym, ap, subst, ◌∙◌, arith, length-append}
+use Rattle.std.proofs.Common.{◌≡◌, ℕ, suc, zero, ◌≤◌, true, List, [], ◌∷◌, ◌++◌, length, take, sum_by, Some, None, refl, sym, ap, subst, ◌∙◌, arith, length-append}
 use Rattle.std.specs.Prelude.{slice_get, position}
 use Rattle.std.specs.List.{list_all}
 use Rattle.std.specs.Str.{bytes_eq}
@@ -10,17 +10,14 @@ use Rattle.step_meaning.specs.declared.program.Core.{Core}
 use Rattle.step_meaning.specs.declared.program.Declared.{Declared}
 use Rattle.step_meaning.specs.declared.program.Layout.{Layout}
 use Rattle.step_meaning.specs.Settings.{Setting}
-use Rattle.step_meaning.specs.TypeRules.{cells, is_spelled, is_object_type, keeps_rules, member_type, are_layouts}
-use Rattle.step_meaning.specs.ExpressionTypes.{is_allocated_type}
-use Rattle.step_meaning.proofs.Ranges.{false_is_not_true, and_true, left_of_and, right_of_and}
-use Rattle.step_meaning.proofs.StructCells.{before_get}
+use Rattle.step_meaning.specs.TypeRules.{cells, is_object_type, keeps_rules, are_layouts}
+use Rattle.step_meaning.proofs.Ranges.{and_true, left_of_and, right_of_and}
 use Rattle.step_meaning.proofs.TypedMemory.{WhereSome}
 use Rattle.step_meaning.proofs.LaterLayouts.{still_keeps, member_types_keep}
 use Rattle.core_types.proofs.MemberLaws.{members as member_laws}
 use Rattle.typing_rules.specs.Environment.{Environment}
 use Rattle.typing_rules.specs.Declarations.{is_complete}
-use Rattle.typing_rules.specs.Subobjects.{member_at, member_of}
-use Rattle.typing_rules.specs.Allocation.{is_allocated}
+use Rattle.typing_rules.specs.Subobjects.{member_at}
 use Rattle.typing_laws.proofs.CheckedValues.{some_then, some_mapped, some_known}
 use Rattle.typing_laws.proofs.LaterTypes.{complete_cells}
 use Rattle.typing_laws.proofs.TypedOperators.{CellsStay}

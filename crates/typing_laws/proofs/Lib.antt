@@ -33,5 +33,17 @@ pub mod SignatureTypes
 pub mod FormedFunctions
 pub mod GrownFrames
 pub mod GoodFunctions
+pub mod FunctionSteps
 pub mod DistinctNames
 pub mod NamedPrograms
+pub mod DefinedPrograms
+pub mod WholePrograms
+pub mod FormedCores
+pub mod PlainCores
+pub mod PlainOperators
+pub mod PlainObjects
+pub mod PlainExpressions
+pub mod PlainDeclarations
+pub mod PlainStatements
+pub mod PlainPrograms
+pub mod SourceCores

@@ -1,40 +1,34 @@
 -- Names of a program are identifiers and distinct, and so are tags and the members of each struct.
-use Rattle.std.proofs.Common.{◌≡◌, ℕ, zero, suc, Bool, true, false, ◌&&◌, ◌||◌, not, List, [], ◌∷◌, ◌++◌, map, length, Option, Some, None, Ok, Err, refl, sym, ap, subst, ◌∙◌, append-nil, append_assoc}
-use Rattle.std.specs.Prelude.{slice_get, codes, is_some, nat_le, sum_by, IsTrue}
-use Rattle.std.specs.List.{list_any, list_all, AllByRecursion}
+use Rattle.std.proofs.Common.{◌≡◌, ℕ, true, false, ◌||◌, not, List, [], ◌∷◌, ◌++◌, map, Option, Some, None, refl, sym, ap, subst, ◌∙◌, append-nil, append_assoc}
+use Rattle.std.specs.Prelude.{slice_get, nat_le, sum_by, IsTrue}
+use Rattle.std.specs.List.{list_all, AllByRecursion}
 use Rattle.std.specs.Str.{bytes_eq}
 use Rattle.c_words.specs.declared.word.Leaf.{Leaf}
-use Rattle.c_words.specs.declared.word.Mode.{Mode}
 use Rattle.step_meaning.specs.declared.value.CType.{CType}
-use Rattle.step_meaning.specs.declared.value.CType.TheVariants as type
 use Rattle.step_meaning.specs.declared.program.Declared.{Declared as Named}
 use Rattle.step_meaning.specs.declared.program.Function.{Function as CoreFunction}
 use Rattle.step_meaning.specs.declared.program.Layout.{Layout}
 use Rattle.step_meaning.specs.TypeRules.{cells, most_cells}
-use Rattle.step_meaning.specs.ExpressionTypes.{has_body}
-use Rattle.step_meaning.specs.Identifiers.{keywords, is_keyword, is_name, are_distinct}
+use Rattle.step_meaning.specs.Identifiers.{is_name, are_distinct}
 use Rattle.step_meaning.specs.WellFormed.{declared_names, are_member_names}
-use Rattle.step_meaning.proofs.Ranges.{and_true, left_of_and, right_of_and}
-use Rattle.step_meaning.proofs.TypedMemory.{get_fits}
-use Rattle.typing_rules.specs.declared.fault.TypeFault.TheVariants.{TooLarge, Redeclared, Reserved}
-use Rattle.typing_rules.specs.Checked.{Checked, ◌>>=◌, unless, none_of}
-use Rattle.typing_rules.specs.Syntax.{Spelled, Declarator, Members, Declared, Parameter, Statements, Item, Struct, Variables, Function, Meta, GhostVariable}
-use Rattle.typing_rules.specs.Environment.{Environment, place_of, bytes_in, contains, is_reserved, specified, spelled_type}
+use Rattle.step_meaning.proofs.Ranges.{and_true}
+use Rattle.typing_rules.specs.declared.fault.TypeFault.TheVariants.{TooLarge}
+use Rattle.typing_rules.specs.Checked.{unless}
+use Rattle.typing_rules.specs.Syntax.{Spelled, Declarator, Members, Declared, Parameter, Statements}
+use Rattle.typing_rules.specs.Environment.{Environment, place_of, bytes_in, contains, is_reserved, specified}
 use Rattle.typing_rules.specs.Declarations.{layers, layered, count_of, is_complete_in}
-use Rattle.typing_rules.specs.Statements.{statements}
-use Rattle.typing_rules.specs.FileScope.{Program, numbered, variable_entry, function_entry, file_scope, tags, seen, seen_now, bytes, is_known, is_main_name, first_values, with_variable, with_values, variable, variables}
-use Rattle.typing_rules.specs.Structs.{has_member, member, member_list, all_members, tag_declarable, with_layout, structure}
-use Rattle.typing_rules.specs.Functions.{declares_allocation, parameters, function_number, contradicts, is_variable, declarable_function, prototype, defined_function, with_function, number_or, replaced, defined_as, function}
-use Rattle.typing_rules.specs.Programs.{item, items, library, start}
+use Rattle.typing_rules.specs.FileScope.{Program, numbered, variable_entry, function_entry, file_scope, tags, seen, seen_now, bytes, is_known, is_main_name, first_values, with_variable, variable, variables}
+use Rattle.typing_rules.specs.Structs.{has_member, member, member_list, all_members, tag_declarable, structure}
+use Rattle.typing_rules.specs.Functions.{function_number, is_variable, replaced, function}
 use Rattle.typing_laws.specs.SmallTypes.{WhereOk}
-use Rattle.typing_laws.specs.ParsedSyntax.{IsName, DeclaredParsed, AllDeclaredParsed, MembersParsed, ItemParsed, ItemsParsed}
-use Rattle.typing_laws.proofs.CheckedValues.{then_holds, then_known, weaker, where_ok, where_some}
-use Rattle.typing_laws.proofs.EachOf.{each_append, each_first, each_last, each_weaker, each_all, all_append}
+use Rattle.typing_laws.specs.ParsedSyntax.{IsName, DeclaredParsed, AllDeclaredParsed, MembersParsed}
+use Rattle.typing_laws.proofs.CheckedValues.{then_holds, then_known, where_ok}
+use Rattle.typing_laws.proofs.EachOf.{each_append, each_first, each_last, all_append}
 use Rattle.typing_laws.proofs.DeclaredNames.{declared_then, none_then, none_left}
-use Rattle.typing_laws.proofs.Positions.{FoundAt, found_at, none_passes, any_none, none_any}
+use Rattle.typing_laws.proofs.Positions.{none_passes, any_none}
 use Rattle.typing_laws.proofs.DistinctNames.{differ_turned, IsNew, new_append, distinct_insert, unknown, new_of_entries, function_names, replaced_names, each_name}
-use Rattle.typing_laws.proofs.Completion.{bytes_same, get_at}
-use Rattle.typing_laws.proofs.GoodFunctions.{MayBeFunction, declarable_function_holds}
+use Rattle.typing_laws.proofs.FunctionSteps.{function_steps}
+use Rattle.typing_laws.proofs.GoodVariables.{variable_text}
 
 pub record HasNames (p : Program) : Type 0 where
   pub globals : AllByRecursion (λ d. IsTrue (is_name d.name)) p.globals
@@ -80,6 +74,14 @@ variable_named base d p c h =
     then_known HasNames (first_values (with_variable p name t) t d.initialiser) _ (λ vs i.
     let named : HasNames (with_variable p name t) = with_variable_named p name t c.0 may.new h in
     record { globals = named.globals; functions = named.functions; distinct = named.distinct; tags = named.tags; distinct_tags = named.distinct_tags; members = named.members })))
+
+pub variables_named : (base : CType) (ds : List Declared) (p : Program) → AllDeclaredParsed p.text ds → HasNames p → WhereOk HasNames (variables base ds p)
+unfolding variables
+variables_named base [] p c h = h
+variables_named base (d ∷ ds) p c h =
+    then_known HasNames (variable base d p) _ (λ p' e.
+    let same : p'.text ≡ p.text = where_ok (λ p'. p'.text ≡ p.text) (variable base d p) p' e (variable_text base d p) in
+    variables_named base ds p' (subst (λ text. AllDeclaredParsed text ds) (sym same) c.1) (where_ok HasNames (variable base d p) p' e (variable_named base d p c.0 h)))
 
 -- ---- structs
 
@@ -128,7 +130,7 @@ tag_new p tag =
     none_then (contains (tags p) (bytes p tag) ≡ false) (contains (tags p) (bytes p tag)) _ _ (λ new.
     none_then (contains (tags p) (bytes p tag) ≡ false) (is_reserved (seen_now p) (bytes p tag)) _ _ (λ own. none_left (contains (tags p) (bytes p tag) ≡ false) new))
 
-structure_named : (tag : Leaf) (ms : List Members) (p : Program) → IsName p.text tag → AllByRecursion (MembersParsed p.text) ms → HasNames p → WhereOk HasNames (structure tag ms p)
+pub structure_named : (tag : Leaf) (ms : List Members) (p : Program) → IsName p.text tag → AllByRecursion (MembersParsed p.text) ms → HasNames p → WhereOk HasNames (structure tag ms p)
 unfolding structure
 structure_named tag ms p i c h =
     then_holds (λ (u : Unit {0}). contains (tags p) (bytes p tag) ≡ false) HasNames (tag_declarable p tag) _ (tag_new p tag) (λ u new.
@@ -191,3 +193,11 @@ replaced_named p n f g e s h =
       distinct_tags = h.distinct_tags;
       members = h.members;
     }
+
+pub function_named : (result : Spelled) (t : Leaf) (xs : List Parameter) (body : Option Statements) (p : Program) → IsName p.text t → HasNames p → WhereOk HasNames (function result t xs body p)
+function_named result t xs body p i h =
+    function_steps HasNames result t xs p body (record {
+      same = λ e. h;
+      more = λ f r ps d may e. prototype_named p (bytes p t) r ps f d.name i may.no_variable e h;
+      instead = λ n f g r ps there named d may e. replaced_named p n f g there (d.name ∙ sym named) h;
+    })

@@ -1,5 +1,5 @@
 -- The cells of an object are those of its elements or members, and each is a scalar.
-use Rattle.std.proofs.Common.{◌≡◌, ℕ, zero, suc, ◌+◌, ◌<◌, ◌≤◌, Bool, true, false, ◌&&◌, List, [], ◌∷◌, ◌++◌, map, replicate, length, flat_map, Option, Some, None, refl, sym, ap, subst, ◌∙◌, arith, append_assoc, append-nil}
+use Rattle.std.proofs.Common.{◌≡◌, ℕ, zero, suc, true, List, [], ◌∷◌, ◌++◌, map, replicate, length, flat_map, Option, Some, None, refl, sym, ap, subst, ◌∙◌, append_assoc, append-nil}
 use Rattle.std.specs.Prelude.{slice_get}
 use Rattle.std.specs.List.{list_all, AllByRecursion}
 use Rattle.step_meaning.specs.declared.value.CType.{CType, end_of-CType, more_of-CType}
@@ -7,10 +7,10 @@ use Rattle.step_meaning.specs.declared.value.CType.TheVariants as type
 use Rattle.step_meaning.specs.declared.program.Declared.{Declared}
 use Rattle.step_meaning.specs.declared.program.Layout.{Layout}
 use Rattle.step_meaning.specs.Types.{times, cell_types, struct_cells, object_cells, or_empty}
-use Rattle.step_meaning.specs.TypeRules.{is_scalar, is_object_type, is_layout_after, are_layouts_after, are_layouts, keeps_rules}
-use Rattle.step_meaning.proofs.Ranges.{left_of_and, right_of_and, false_is_not_true}
+use Rattle.step_meaning.specs.TypeRules.{is_scalar, is_object_type, is_layout_after, are_layouts_after, are_layouts}
+use Rattle.step_meaning.proofs.Ranges.{left_of_and, right_of_and}
 use Rattle.step_meaning.proofs.StructCells.{struct_at}
-use Rattle.step_meaning.proofs.LaterLayouts.{same_cells, member_types_keep}
+use Rattle.step_meaning.proofs.LaterLayouts.{same_cells}
 use Rattle.step_meaning.proofs.TypedMemory.{WhereSome, get_fits}
 use Rattle.typing_laws.proofs.EachOf.{each_append}
 

@@ -1,5 +1,5 @@
 -- Types of results and parameters, where the rules on functions are kept.
-use Rattle.std.proofs.Common.{◌≡◌, ℕ, zero, suc, Bool, true, false, ◌&&◌, ◌||◌, not, List, [], ◌∷◌, ◌++◌, length, Option, Some, None, Ok, Err, refl, sym, ap, subst, ◌∙◌}
+use Rattle.std.proofs.Common.{◌≡◌, ℕ, zero, suc, Bool, true, false, ◌&&◌, ◌||◌, not, List, [], ◌∷◌, length, Option, Some, None, refl, sym, subst}
 use Rattle.std.specs.List.{AllByRecursion}
 use Rattle.std.specs.Prelude.{IsTrue}
 use Rattle.c_words.specs.declared.word.Leaf.{Leaf}
@@ -9,22 +9,22 @@ use Rattle.step_meaning.specs.declared.value.CType.{CType, end_of-CType, more_of
 use Rattle.step_meaning.specs.declared.value.CType.TheVariants as type
 use Rattle.step_meaning.specs.declared.program.Declared.{Declared as Named}
 use Rattle.step_meaning.specs.declared.program.Layout.{Layout}
-use Rattle.step_meaning.specs.TypeRules.{is_scalar, is_spelled, is_object_type, keeps_rules, is_scalar_type, is_result_type}
+use Rattle.step_meaning.specs.TypeRules.{is_scalar, is_spelled, keeps_rules, is_scalar_type, is_result_type}
 use Rattle.step_meaning.specs.ExpressionTypes.{pointer_to, is_void}
 use Rattle.step_meaning.specs.Identifiers.{is_name}
-use Rattle.step_meaning.proofs.Ranges.{false_is_not_true, and_true, left_of_and, right_of_and}
-use Rattle.typing_rules.specs.Checked.{Checked, ◌>>=◌, kept}
+use Rattle.step_meaning.proofs.Ranges.{false_is_not_true, and_true, left_of_and}
+use Rattle.typing_rules.specs.Checked.{kept}
 use Rattle.typing_rules.specs.Syntax.{Spelled, Parameter}
-use Rattle.typing_rules.specs.Environment.{Environment, place_of, is_reserved, specified, with_stars, spelled_type}
-use Rattle.typing_rules.specs.Declarations.{layers, layered, is_complete, is_within_limit, is_struct, is_complete_in, declarable}
-use Rattle.typing_rules.specs.FileScope.{Program, seen_now, bytes}
+use Rattle.typing_rules.specs.Environment.{Environment, is_reserved, specified, with_stars, spelled_type}
+use Rattle.typing_rules.specs.Declarations.{layers, layered, is_complete, is_within_limit, is_struct, is_complete_in}
+use Rattle.typing_rules.specs.FileScope.{Program, seen_now}
 use Rattle.typing_rules.specs.Functions.{adjusted, name_of, place_of_parameter, is_repeated, with_parameters, is_wrong_parameter, parameter, parameters}
 use Rattle.typing_rules.proofs.ObjectTypes.{has_elements}
 use Rattle.typing_laws.specs.SmallTypes.{WhereOk}
 use Rattle.typing_laws.specs.ParsedSyntax.{HasName, IsNamed}
 use Rattle.typing_laws.proofs.CheckedValues.{then_holds, then_known}
 use Rattle.typing_laws.proofs.EachOf.{each_append}
-use Rattle.typing_laws.proofs.DeclaredNames.{not_false, declared_then}
+use Rattle.typing_laws.proofs.DeclaredNames.{declared_then}
 use Rattle.typing_laws.proofs.DeclaredTypes.{HaveSizes, layers_fit, layered_elements, specified_elements, declared_keeps}
 use Rattle.typing_laws.proofs.SmallPrograms.{tags_counted}
 use Rattle.typing_laws.proofs.TypedValues.{is_value_type, scalar_valued}

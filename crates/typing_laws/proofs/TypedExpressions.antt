@@ -1,6 +1,6 @@
 -- Each operand of an expression fits, where what names stand for agrees with the program.
 use Rattle.std.proofs.Common.{◌≡◌, ℕ, Bool, true, false, ◌&&◌, ◌||◌, not, List, [], ◌∷◌, length, Option, Some, None, Ok, Err, refl, sym, ap, subst, ◌∙◌, ◌<◌, arith}
-use Rattle.std.specs.Prelude.{pos, int_le, nat_lt, nat_le, Result, ◌==◌, codes, IsTrue}
+use Rattle.std.specs.Prelude.{pos, int_le, nat_lt, nat_le, Result, ◌==◌, codes}
 use Rattle.std.specs.Str.{bytes_eq}
 use Rattle.std.proofs.lemmas.Bool.{ltb-true, le-leb, eqb-true}
 use Rattle.c_lexer.specs.declared.token.Place.{Place}
