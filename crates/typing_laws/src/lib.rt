@@ -1,4 +1,4 @@
-//! Laws on the typing rules: the core of a text is well formed, and what elaboration gives is small enough to be counted in 32 bits.
+//! Laws on the typing rules: what elaboration gives is small enough to be counted in 32 bits.
 #![tactic(auto)]
 
 ghost use Rattle.typing_laws.specs.SmallPrograms.{ProgramsAreSmall};
