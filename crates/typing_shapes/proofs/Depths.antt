@@ -1,5 +1,5 @@
 -- The first operand of a chain is less deep than the chain.
-use Rattle.std.proofs.Common.{◌<◌, arith, lt_trans}
+use Rattle.std.proofs.Common.{◌<◌, arith}
 use Rattle.c_grammar.specs.declared.expression.Or.{Or, out-Or, size-Or, size_is-Or}
 use Rattle.c_grammar.specs.declared.expression.And.{And, out-And, size-And, size_is-And}
 use Rattle.c_grammar.specs.declared.expression.BitOr.{BitOr, out-BitOr, size-BitOr, size_is-BitOr}

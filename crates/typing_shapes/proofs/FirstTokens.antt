@@ -1,5 +1,5 @@
 -- Where chains and suffixes begin.
-use Rattle.std.proofs.Common.{◌≡◌, List, [], ◌∷◌, map, refl, sym, ap, subst, ◌∙◌}
+use Rattle.std.proofs.Common.{◌≡◌, List, [], ◌∷◌, map, refl, ap, subst, ◌∙◌}
 use Rattle.c_words.specs.declared.word.Leaf.{Leaf}
 use Rattle.c_words.specs.declared.chain.Chain.{Chain}
 use Rattle.c_words.specs.declared.chain.Link.{Link}

@@ -1,5 +1,5 @@
 -- A chain with a last link.
-use Rattle.std.proofs.Common.{◌≡◌, Bool, true, false, ◌&&◌, ◌||◌, List, [], ◌∷◌, ◌++◌, length, refl, sym, ap, subst, ◌∙◌, arith}
+use Rattle.std.proofs.Common.{◌≡◌, false, ◌&&◌, ◌||◌, List, [], ◌∷◌, ◌++◌, length, refl, sym, ap, subst, ◌∙◌, arith}
 use Rattle.c_words.specs.declared.chain.Chain.{Chain}
 use Rattle.c_words.specs.declared.chain.Link.{Link}
 use Rattle.typing_rules.specs.Syntax as syntax

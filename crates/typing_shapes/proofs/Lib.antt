@@ -2,3 +2,4 @@ pub mod Depths
 pub mod LastLinks
 pub mod FirstTokens
 pub mod Suffixes
+pub mod BareForms

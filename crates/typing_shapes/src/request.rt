@@ -1,17 +1,24 @@
 //! Whether an expression has the form of an argument of `malloc` (C11 7.22.3.4, 6.5.3.4).
 
-ghost use Rattle.std.specs.Prelude.{◌≡◌, ◌<◌};
+ghost use Rattle.std.specs.Prelude.{◌≡◌, ◌<◌, ◌≤◌, suc, IfSome, MatchOption, false};
 ghost use Rattle.c_grammar.specs.declared.expression.Or.{size-Or};
 ghost use Rattle.c_grammar.specs.declared.expression.Product.{size-Product};
+ghost use Rattle.c_grammar.specs.declared.expression.Assign.{size-Assign};
+ghost use Rattle.c_grammar.specs.declared.expression.Choice.{size-Choice};
+ghost use Rattle.c_grammar.specs.declared.expression.Unary.{size-Unary};
+ghost use Rattle.c_grammar.specs.declared.expression.Postfix.{size-Postfix};
+ghost use Rattle.c_grammar.specs.declared.expression.Primary.{size-Primary};
 ghost use Rattle.typing_rules.specs.Syntax.{Expression};
 ghost use Rattle.typing_rules.specs.TreesOfExpressions as trees;
 ghost use Rattle.typing_shapes.specs.Levels.{IsLevel, IsSole, product_in};
+ghost use Rattle.typing_shapes.specs.Bare.{AreFactors, AreWithin, EndsInStar, IsBare, IsSizeof, bare_size, measured_size};
 ghost use Rattle.typing_shapes.specs.Requests as spec;
 
 use c_grammar::expression::{Assign, Choice, Or, Postfix, Primary, Product, Unary};
+use c_grammar::types::TypeName;
 use c_words::chain::Chain;
 use c_words::cursor::same;
-use c_words::word::Word;
+use c_words::word::{Leaf, Word};
 
 /// What operators an expression has at one level, or above that of products.
 #[derive(Clone, Copy)]
@@ -84,86 +91,163 @@ pub fn product_level(e: &Or) -> Level
     inside(chain_level(&e.0), in_and)
 }
 
-#[cycle(sized)]
-#[tactic(auto, using(typing_rules::proofs::ExpressionAlternatives::expressions), unfolding(crate::specs::Requests::is_sized))]
-fn is_sized_expression(e: &Assign) -> bool
-    ensures { result ≡ spec.is_sized (trees.assign e.now) }
+/// What a `sizeof` names the type of (C11 6.5.3.4).
+#[derive(Clone, Copy)]
+pub enum Measured<'t> {
+    /// The operand, whose type is named.
+    Operand(&'t Unary),
+    Named(&'t TypeName),
+}
+
+/// An expression without its parentheses, as far as `malloc` asks for its form.
+#[derive(Clone, Copy)]
+pub enum Bare<'t> {
+    Sized(Measured<'t>),
+    /// A product whose last operator is `*`.
+    Product(&'t Product),
+    /// Nothing that `malloc` is asked for.
+    Other,
+    /// A `*` where only operators of another level may stand, which no text makes.
+    Unlevelled,
+}
+
+/// The expression without its parentheses.
+#[cycle(bare)]
+#[tactic(auto, using(typing_rules::proofs::ExpressionAlternatives::expressions), unfolding(crate::specs::Requests::is_sized, crate::specs::Requests::is_request, crate::specs::Bare::stripped))]
+pub fn bare_form(e: &Assign) -> Bare<'_>
+    ensures form { IsBare (trees.assign e.now) result }
+    ensures within { bare_size result < size-Assign e.now }
 {
     match e {
-        Assign::Choice(x) => is_sized_choice(x),
-        Assign::Assign(_, _, _) => false,
+        Assign::Choice(x) => bare_choice(x),
+        Assign::Assign(_, _, _) => Bare::Other,
     }
 }
 
-#[cycle(sized)]
-#[tactic(auto, using(typing_rules::proofs::ExpressionAlternatives::expressions), unfolding(crate::specs::Requests::is_sized))]
-fn is_sized_choice(e: &Choice) -> bool
-    ensures { result ≡ spec.is_sized (trees.choice e.now) }
+#[cycle(bare)]
+#[tactic(auto, using(typing_rules::proofs::ExpressionAlternatives::expressions), unfolding(crate::specs::Requests::is_sized, crate::specs::Requests::is_request, crate::specs::Bare::stripped))]
+fn bare_choice(e: &Choice) -> Bare<'_>
+    ensures form { IsBare (trees.choice e.now) result }
+    ensures within { bare_size result ≤ size-Choice e.now }
 {
     match e {
-        Choice::Or(x) => is_sized_or(x.get()),
-        Choice::Choose(_, _, _, _, _) => false,
+        Choice::Or(x) => bare_or(x.get()),
+        Choice::Choose(_, _, _, _, _) => Bare::Other,
     }
 }
 
-#[cycle(sized)]
-fn is_sized_or(e: &Or) -> bool
-    ensures { result ≡ spec.is_sized (trees.or e.now) }
+#[cycle(bare)]
+fn bare_or(e: &Or) -> Bare<'_>
+    ensures form { IsBare (trees.or e.now) result }
+    ensures within { bare_size result ≤ size-Or e.now }
 {
     match product_level(e) {
-        Level::Alone => is_sized_product(first_product(e)),
-        Level::Other => false,
-        Level::Unlevelled => false,
+        Level::Alone => bare_product(first_product(e)),
+        Level::Other => Bare::Other,
+        Level::Unlevelled => Bare::Unlevelled,
     }
 }
 
-#[cycle(sized)]
-fn is_sized_product(e: &Product) -> bool
-    ensures { result ≡ spec.is_sized (trees.product e.now) }
+#[cycle(bare)]
+fn bare_product(e: &Product) -> Bare<'_>
+    ensures form { IsBare (trees.product e.now) result }
+    ensures within { bare_size result ≤ suc (size-Product e.now) }
 {
-    match chain_level(&e.0) {
-        Level::Alone => is_sized(&e.0.first),
-        Level::Other => false,
-        Level::Unlevelled => false,
+    match e.0.rest.as_slice().split_last() {
+        None => bare_unary(&e.0.first),
+        Some((last, _before)) => {
+            if same(Word::Star, last.operator.word) {
+                Bare::Product(e)
+            } else {
+                Bare::Other
+            }
+        }
     }
 }
 
-/// Whether the operand is a `sizeof`, in any parentheses.
-#[cycle(sized)]
-#[tactic(auto, using(typing_rules::proofs::ExpressionAlternatives::expressions), unfolding(crate::specs::Requests::is_sized))]
-pub fn is_sized(e: &Unary) -> bool
-    ensures { result ≡ spec.is_sized (trees.unary e.now) }
+#[cycle(bare)]
+#[tactic(auto, using(typing_rules::proofs::ExpressionAlternatives::expressions), unfolding(crate::specs::Requests::is_sized, crate::specs::Requests::is_request, crate::specs::Bare::stripped))]
+fn bare_unary(e: &Unary) -> Bare<'_>
+    ensures form { IsBare (trees.unary e.now) result }
+    ensures within { bare_size result ≤ size-Unary e.now }
 {
     match e {
-        Unary::Postfix(x) => is_sized_postfix(x),
-        Unary::Prefix(_, _) => false,
-        Unary::Cast(_, _, _, _) => false,
-        Unary::SizeOf(_, _) => true,
-        Unary::SizeOfType(_, _, _, _) => true,
+        Unary::Postfix(x) => bare_postfix(x),
+        Unary::Prefix(_, _) => Bare::Other,
+        Unary::Cast(_, _, _, _) => Bare::Other,
+        Unary::SizeOf(_, x) => Bare::Sized(Measured::Operand(x.get())),
+        Unary::SizeOfType(_, _, name, _) => Bare::Sized(Measured::Named(name.get())),
     }
 }
 
-#[cycle(sized)]
-fn is_sized_postfix(e: &Postfix) -> bool
-    ensures { result ≡ spec.is_sized (trees.postfix e.now) }
+#[cycle(bare)]
+fn bare_postfix(e: &Postfix) -> Bare<'_>
+    ensures form { IsBare (trees.postfix e.now) result }
+    ensures within { bare_size result ≤ size-Postfix e.now }
 {
     if e.suffixes.is_empty() {
-        is_sized_primary(&e.primary)
+        bare_primary(&e.primary)
     } else {
-        false
+        Bare::Other
     }
 }
 
-#[cycle(sized)]
-#[tactic(auto, using(typing_rules::proofs::ExpressionAlternatives::expressions), unfolding(crate::specs::Requests::is_sized))]
-fn is_sized_primary(e: &Primary) -> bool
-    ensures { result ≡ spec.is_sized (trees.primary e.now) }
+#[cycle(bare)]
+#[tactic(auto, using(typing_rules::proofs::ExpressionAlternatives::expressions), unfolding(crate::specs::Requests::is_sized, crate::specs::Requests::is_request, crate::specs::Bare::stripped))]
+fn bare_primary(e: &Primary) -> Bare<'_>
+    ensures form { IsBare (trees.primary e.now) result }
+    ensures within { bare_size result ≤ size-Primary e.now }
 {
     match e {
-        Primary::Name(_) => false,
-        Primary::Call(_, _, _, _) => false,
-        Primary::Number(_) => false,
-        Primary::Character(_) => false,
-        Primary::Paren(_, inside, _) => is_sized_expression(inside.get()),
+        Primary::Name(_) => Bare::Other,
+        Primary::Call(_, _, _, _) => Bare::Other,
+        Primary::Number(_) => Bare::Other,
+        Primary::Character(_) => Bare::Other,
+        Primary::Paren(_, inside, _) => bare_form(inside.get()),
+    }
+}
+
+/// What the operand names the type of, where it is a `sizeof` in any parentheses.
+pub fn sized(e: &Unary) -> Option<Measured<'_>>
+    ensures form { MatchOption result (spec.is_sized (trees.unary e.now) ≡ false) (λ m. IsSizeof (trees.unary e.now) m) }
+    ensures within { IfSome result (λ m. measured_size m ≤ size-Unary e.now) }
+{
+    match bare_unary(e) {
+        Bare::Sized(measured) => Some(measured),
+        Bare::Product(_) => None,
+        Bare::Other => None,
+        Bare::Unlevelled => None,
+    }
+}
+
+/// Where a `sizeof` stands among the operands of a product.
+#[derive(Clone, Copy)]
+pub enum Factors<'t> {
+    /// The last operand, after this `*`.
+    Last(&'t Leaf, Measured<'t>),
+    /// The first of two operands, of which the second is none, with the `*` between them.
+    First(Measured<'t>, &'t Leaf, &'t Unary),
+    /// In no such place.
+    Neither,
+}
+
+/// Where a `sizeof` stands in a product whose last operator is `*`.
+pub fn factors_of(e: &Product) -> Factors<'_>
+    requires { EndsInStar e.now }
+    ensures form { AreFactors e.now result }
+    ensures within { AreWithin (size-Product e.now) result }
+{
+    let Some((last, before)) = e.0.rest.as_slice().split_last() else {
+        return Factors::Neither;
+    };
+    if let Some(measured) = sized(&last.operand) {
+        return Factors::Last(&last.operator, measured);
+    }
+    if !before.is_empty() {
+        return Factors::Neither;
+    }
+    match sized(&e.0.first) {
+        Some(measured) => Factors::First(measured, &last.operator, &last.operand),
+        None => Factors::Neither,
     }
 }

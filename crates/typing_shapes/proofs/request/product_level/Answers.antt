@@ -1,4 +1,3 @@
-use Rattle.std.proofs.Common.{sym, subst}
 use Rattle.c_grammar.specs.declared.expression.Or.{out-Or}
 use Rattle.c_grammar.specs.declared.expression.And.{out-And}
 use Rattle.c_grammar.specs.declared.expression.BitOr.{out-BitOr}
@@ -8,10 +7,8 @@ use Rattle.c_grammar.specs.declared.expression.Equal.{out-Equal}
 use Rattle.c_grammar.specs.declared.expression.Relation.{out-Relation}
 use Rattle.c_grammar.specs.declared.expression.Shift.{out-Shift}
 use Rattle.c_grammar.specs.declared.expression.Sum.{out-Sum}
-use Rattle.typing_rules.specs.Syntax.{Expression}
 use Rattle.typing_rules.specs.TreesOfExpressions as trees
 use Rattle.typing_rules.proofs.ExpressionAlternatives.{sum-is, shift-is, relation-is, equal-is, bit_and-is, bit_xor-is, bit_or-is, and-is, or-is}
-use Rattle.typing_shapes.specs.Levels.{IsLevel}
 use Rattle.typing_shapes.proofs.LastLinks.{same_level}
 use Rattle.typing_shapes.proofs.request.product_level.Goals as goal
 

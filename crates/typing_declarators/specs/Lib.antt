@@ -1,0 +1,4 @@
+pub mod Adding
+pub mod Layers
+pub mod Types
+pub mod Names

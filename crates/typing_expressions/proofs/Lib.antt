@@ -1,0 +1,10 @@
+pub mod Alternatives
+pub mod SmallOperands
+pub mod Products
+pub mod Arguments
+pub mod Postfixes
+pub mod Calls
+pub mod Requests
+pub mod Requested
+pub mod Choices
+pub mod Exits

@@ -1,0 +1,4 @@
+pub mod Points
+pub mod Variables
+pub mod CellSums
+pub mod Runs

@@ -1,0 +1,6 @@
+pub mod Numbers
+pub mod PartForms
+pub mod Filled
+pub mod CellLaws
+pub mod AddressLaws
+pub mod LocalLaws

@@ -1,0 +1,4 @@
+pub mod Numbers
+pub mod Initialisers
+pub mod Parts
+pub mod Locals

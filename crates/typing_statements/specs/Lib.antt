@@ -1,0 +1,4 @@
+pub mod Points
+pub mod Making
+pub mod Locals
+pub mod Blocks
