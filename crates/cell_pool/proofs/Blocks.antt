@@ -3,6 +3,7 @@ use Rattle.std.proofs.Common.{◌≡◌, ℕ, zero, suc, ◌+◌, ◌*◌, ◌/�
 use Rattle.std.specs.List.{sum_by}
 use Rattle.std.specs.Int.{div_ceil}
 use Rattle.std.specs.Option.{IsSome}
+use Rattle.std.specs.Prelude.{option_map}
 use Rattle.std.proofs.lemmas.Bool.{cases_eq, cases_lt, eq-eqb, ne_eqb}
 use Rattle.std.proofs.lemmas.List.{ext_get_or, get_or_past, get_or-map, length-map}
 use Rattle.std.proofs.lemmas.List.FromFn.{length-map-range_with_len, get_or-map-range_with_len}
@@ -142,3 +143,24 @@ held_are size l =
     let c : chunks_of size ≡ size / 16 + min 1 (size % 16) = chunks_are size l in
     let m : 1 ≤ max 1 (div_ceil size 16) = le-max_left 1 (div_ceil size 16) in
     (omega arith, omega arith)
+
+-- how many cells a live block has
+pub block_size : {C : Type 0} (blank : C) (cells : List C) (next sizes names : List ℕ) (slot name : ℕ) → slot < length sizes → get_or names slot 0 ≡ name → 0 < get_or sizes slot 0 → option_map (λ block. length block.cells) (block_of (region_from blank cells next sizes names) slot name) ≡ Some (get_or sizes slot 0)
+block_size blank cells next sizes names slot name l e p =
+    ap (option_map (λ block. length block.cells)) (named_block blank cells next sizes names slot name l e p) ∙ ap Some (length-cells blank cells next slot (get_or sizes slot 0))
+
+pub no_block : {C : Type 0} (blank : C) (cells : List C) (next sizes names : List ℕ) (slot name : ℕ) → (slot < length sizes → get_or names slot 0 ≡ name → 0 < get_or sizes slot 0 → ⊥) → block_of (region_from blank cells next sizes names) slot name ≡ None
+no_block {C} blank cells next sizes names slot name h =
+    elim (cases_lt slot (length sizes)) [
+      | inl l ↦ elim (cases_eq (get_or sizes slot 0) 0) [
+        | inl e ↦ gone (blocks_at blank cells next sizes names slot None l ∙ block_none blank cells next (get_or names slot 0) slot (get_or sizes slot 0) e)
+        | inr n ↦ elim (cases_eq (get_or names slot 0) name) [
+          | inl e ↦ absurd (h l e (omega arith))
+          | inr d ↦ rw (blocks_at blank cells next sizes names slot None l, block_some blank cells next (get_or names slot 0) slot (get_or sizes slot 0) (omega arith), ne_eqb (get_or names slot 0) name d) refl
+        ]
+      ]
+      | inr l ↦ gone (get_or_past (blocks_from blank cells next sizes names) slot None (rw length-blocks l))
+    ]
+  where
+    gone : get_or (blocks_from blank cells next sizes names) slot None ≡ None → block_of (region_from blank cells next sizes names) slot name ≡ None
+    gone e = rw e refl

@@ -1,6 +1,6 @@
 //! The pool: blocks by slot and name.
 
-ghost use Rattle.std.specs.Prelude.{◌≡◌, ◌+◌, ◌<◌, ◌≤◌, ◌↔◌, None, Some, IfOk, IsErr, IsSome, OnErr, is_some, length, replicate, slice_index_or};
+ghost use Rattle.std.specs.Prelude.{◌≡◌, ◌+◌, ◌<◌, ◌≤◌, ◌↔◌, None, Some, IfOk, IsErr, IsSome, OnErr, is_some, length, option_map, replicate, slice_index_or};
 ghost use Rattle.cell_pool.specs.Region.{block_of, cell_of, chunks_of, live_chunks, with_block, with_cell};
 
 use crate::chunks::{clear, find, follow, linked, repeated};
@@ -123,6 +123,23 @@ impl<C: Copy> Pool<C> {
                 true
             }
         }
+    }
+
+    /// How many cells the live block with this slot and name has; `None` where there is no such block.
+    pub fn cells_in(&self, slot: u32, name: u64) -> Option<u32>
+        ensures { result ≡ option_map (λ block. length block.cells) (block_of self.now slot name) }
+    {
+        match find(&self.next, &self.sizes, &self.names, slot, name, 0) {
+            None => None,
+            Some(_) => Some(self.sizes[slot as usize]),
+        }
+    }
+
+    /// How many chunks the region has.
+    pub fn chunks(&self) -> u32
+        ensures { result ≡ length self.now.blocks }
+    {
+        self.next.len() as u32
     }
 
     /// How many chunks belong to blocks.

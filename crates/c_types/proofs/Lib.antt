@@ -1,0 +1,4 @@
+pub mod StartLaws
+pub mod ItemLaws
+pub mod EndLaws
+pub mod Texts

@@ -1,0 +1,4 @@
+pub mod Starts
+pub mod Items
+pub mod Ends
+pub mod Texts

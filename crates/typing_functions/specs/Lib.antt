@@ -1,0 +1,3 @@
+pub mod Parameters
+pub mod Signatures
+pub mod Functions
