@@ -1,5 +1,5 @@
 -- Items, step by step.
-use Rattle.std.proofs.Common.{◌≡◌, List, [], ◌∷◌, map, length, Some, None, Ok, refl, ap, ◌∙◌}
+use Rattle.std.proofs.Common.{◌≡◌, List, [], ◌∷◌, length, Some, None, Ok, refl}
 use Rattle.c_words.specs.declared.word.Leaf.{Leaf}
 use Rattle.c_words.specs.declared.chain.Chain.{Chain}
 use Rattle.c_grammar.specs.declared.types.Specifier.{Specifier}

@@ -14,7 +14,7 @@ use Rattle.typing_rules.specs.TreesOfDeclarations as trees
 use Rattle.typing_operands.proofs.Pointers.{pointer-Pointer}
 use Rattle.typing_laws.proofs.SmallPrograms.{start_small}
 use Rattle.typing_scopes.specs.declared.known.Known.{Known}
-use Rattle.typing_scopes.specs.Known.{program, state}
+use Rattle.typing_scopes.specs.Known.{state}
 use Rattle.typing_scopes.specs.States.{State, no_frame}
 use Rattle.typing_files.specs.Points.{IsSteady, IsAtFile}
 use Rattle.c_types.specs.Starts.{unknown, with_bodies, body_name, names_in}

@@ -1,5 +1,5 @@
 -- Whole texts.
-use Rattle.std.proofs.Common.{◌≡◌, List, ℕ, map, Ok, Err, refl, sym, ap, subst, ◌∙◌}
+use Rattle.std.proofs.Common.{◌≡◌, List, ℕ, map, Ok, Err, sym, ap, subst, ◌∙◌}
 use Rattle.std.specs.Prelude.{IfOk}
 use Rattle.c_words.specs.declared.word.Mode.{Mode}
 use Rattle.c_words.specs.declared.word.Mode.TheVariants as mode

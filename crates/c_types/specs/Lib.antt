@@ -1,4 +1,3 @@
 pub mod Starts
 pub mod Items
 pub mod Ends
-pub mod Texts

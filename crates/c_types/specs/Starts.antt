@@ -5,7 +5,6 @@ use Rattle.c_words.specs.declared.word.Mode.{Mode}
 use Rattle.c_words.specs.Words as words
 use Rattle.c_grammar.specs.declared.program.Item.{Item}
 use Rattle.step_meaning.specs.declared.value.CType.{CType}
-use Rattle.step_meaning.specs.declared.program.Declared.{Declared as Named}
 use Rattle.step_meaning.specs.declared.program.Function.{Function as CoreFunction}
 use Rattle.typing_rules.specs.declared.fault.TypeFault.TheVariants as fault
 use Rattle.typing_rules.specs.Checked.{Checked}

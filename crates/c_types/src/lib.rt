@@ -5,10 +5,6 @@ mod bodies;
 mod elaboration;
 mod items;
 mod library;
-mod text;
-mod text_fault;
 mod whole;
 
 pub use elaboration::elaborate;
-pub use text::core_of_text;
-pub use text_fault::TextFault;

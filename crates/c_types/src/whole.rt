@@ -40,7 +40,11 @@ fn main_of(known: &Known<'_>) -> Result<u32, TypeFault>
 fn has_many_cells(known: &Known<'_>) -> bool
     ensures { result ≡ ends.has_many_cells (program known.now) }
 {
-    room_beside(known.layouts.as_slice(), known.globals.as_slice(), 16_777_217) == 0
+    room_beside(
+        known.layouts.as_slice(),
+        known.globals.as_slice(),
+        16_777_217,
+    ) == 0
 }
 
 /// Whether there are too many weighted nodes.

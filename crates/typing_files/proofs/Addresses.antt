@@ -1,10 +1,9 @@
 -- The address that a cell of file scope starts with lies in a variable, so that its offset is small.
-use Rattle.std.proofs.Common.{◌≡◌, ℕ, ◌+◌, ◌<◌, ◌≤◌, ◌^◌, Bool, true, List, [], ◌∷◌, Option, Some, None, refl, sym, subst, arith}
-use Rattle.std.specs.Prelude.{slice_get, if◌then◌else◌, IsTrue}
+use Rattle.std.proofs.Common.{◌≡◌, ℕ, ◌+◌, ◌<◌, ◌≤◌, ◌^◌, true, List, [], Option, Some, None, arith}
+use Rattle.std.specs.Prelude.{slice_get, if◌then◌else◌}
 use Rattle.std.specs.List.{AllByRecursion}
-use Rattle.step_meaning.specs.declared.value.CType.{CType, end_of-CType, more_of-CType}
+use Rattle.step_meaning.specs.declared.value.CType.{CType}
 use Rattle.step_meaning.specs.declared.value.CType.TheVariants as type
-use Rattle.step_meaning.specs.declared.value.Name.{Name}
 use Rattle.step_meaning.specs.declared.value.Value.{Value}
 use Rattle.step_meaning.specs.declared.value.Value.TheVariants as value
 use Rattle.step_meaning.specs.declared.expr.Expr.{Expr}

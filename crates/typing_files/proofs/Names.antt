@@ -3,7 +3,7 @@ use Rattle.std.proofs.Common.{◌≡◌, ℕ, Bool, true, false, ◌||◌, List,
 use Rattle.std.specs.List.{list_any}
 use Rattle.std.specs.Str.{bytes_eq}
 use Rattle.step_meaning.specs.declared.program.Declared.{Declared}
-use Rattle.typing_laws.proofs.Completion.{bytes_same, bytes_itself}
+use Rattle.typing_laws.proofs.Completion.{bytes_same}
 use Rattle.typing_laws.proofs.DistinctNames.{differ_turned}
 
 pub names_turned : (a b : List ℕ) → bytes_eq a b ≡ bytes_eq b a

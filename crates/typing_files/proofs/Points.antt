@@ -1,13 +1,11 @@
 -- What holds at a point of a text between its items.
-use Rattle.std.proofs.Common.{◌≡◌, ℕ, suc, ◌<◌, ◌≤◌, true, List, length, refl, sym, ap, subst, ◌∙◌, arith}
+use Rattle.std.proofs.Common.{◌≡◌, suc, ◌≤◌, true, length, sym, ap, subst, ◌∙◌}
 use Rattle.std.specs.List.{AllByRecursion}
 use Rattle.std.proofs.lemmas.Bool.{le-leb}
 use Rattle.step_meaning.specs.declared.value.CType.TheVariants.{Struct}
-use Rattle.step_meaning.specs.declared.program.Declared.{Declared as Named}
-use Rattle.step_meaning.specs.TypeRules.{cells, most_cells, keeps_rules}
+use Rattle.step_meaning.specs.TypeRules.{cells, most_cells}
 use Rattle.step_meaning.proofs.Ranges.{right_of_and}
 use Rattle.core_types.proofs.MemberLaws.{has_cell}
-use Rattle.typing_rules.specs.Environment.{Environment}
 use Rattle.typing_rules.specs.FileScope.{Program, seen, seen_now, tags}
 use Rattle.typing_laws.specs.SmallTypes.{StructsAreSmall, IsSmall}
 use Rattle.typing_laws.specs.SmallPrograms.{is_small_object}

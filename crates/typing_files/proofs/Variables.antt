@@ -1,6 +1,5 @@
 -- Variables of file scope, step by step, and what each keeps.
-use Rattle.std.proofs.Common.{◌≡◌, ℕ, suc, ◌≤◌, Bool, true, false, ◌||◌, not, List, [], ◌∷◌, ◌++◌, map, drop, length, Ok, Err, refl, sym, ap, subst, ◌∙◌}
-use Rattle.std.specs.List.{AllByRecursion}
+use Rattle.std.proofs.Common.{◌≡◌, ℕ, ◌≤◌, true, false, ◌||◌, not, List, [], ◌∷◌, length, Ok, Err, refl, sym, ap, subst, ◌∙◌}
 use Rattle.std.proofs.lemmas.Bool.{le-leb}
 use Rattle.c_words.specs.declared.word.Leaf.{Leaf}
 use Rattle.c_grammar.specs.declared.types.Specifier.{Specifier}
@@ -8,7 +7,6 @@ use Rattle.c_grammar.specs.declared.types.Specifier.TheVariants as spec
 use Rattle.step_meaning.specs.declared.value.CType.{CType}
 use Rattle.step_meaning.specs.declared.value.CType.TheVariants as type
 use Rattle.step_meaning.specs.declared.value.Value.{Value}
-use Rattle.step_meaning.specs.declared.program.Declared.{Declared as Named}
 use Rattle.step_meaning.specs.TypeRules.{keeps_rules}
 use Rattle.typing_rules.specs.declared.fault.TypeFault.TheVariants.{Unknown}
 use Rattle.typing_rules.specs.Checked.{Checked, ◌>>=◌, kept}

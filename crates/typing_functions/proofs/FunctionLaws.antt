@@ -11,7 +11,7 @@ use Rattle.step_meaning.specs.declared.program.Declared.{Declared as Named}
 use Rattle.step_meaning.specs.declared.program.Function.{Function as CoreFunction}
 use Rattle.step_meaning.specs.Identifiers.{are_distinct}
 use Rattle.typing_rules.specs.declared.fault.TypeFault.{TypeFault}
-use Rattle.typing_rules.specs.Checked.{Checked, ◌>>=◌}
+use Rattle.typing_rules.specs.Checked.{◌>>=◌}
 use Rattle.typing_rules.specs.Syntax.{Spelled, Parameter, Statements}
 use Rattle.typing_rules.specs.Environment.{spelled_type}
 use Rattle.typing_rules.specs.Declarations.{is_within_limit}
@@ -25,10 +25,9 @@ use Rattle.typing_laws.proofs.Positions.{FoundAt, found_at, none_passes}
 use Rattle.typing_laws.proofs.SmallPrograms.{with_function_small, replaced_small}
 use Rattle.typing_declarators.proofs.LayerLaws.{SameOutcome, same_Ok}
 use Rattle.typing_scopes.specs.declared.known.Known.{Known}
-use Rattle.typing_scopes.specs.Known.{program, known, frame, state}
+use Rattle.typing_scopes.specs.Known.{program, frame, state}
 use Rattle.typing_scopes.specs.States.{environment, no_frame}
 use Rattle.typing_files.specs.Points.{IsSteady, IsAtFile}
-use Rattle.typing_files.proofs.Outcomes.{then_same}
 use Rattle.typing_statements.specs.Points.{outside, around, frame_at, IsReady}
 use Rattle.typing_functions.specs.Functions.{IsNamed, IsDeclared, number_of, with_declared, with_statements, with_body, declared_as, judged_as, function_of}
 use Rattle.typing_functions.specs.Parameters.{IsInFunction}

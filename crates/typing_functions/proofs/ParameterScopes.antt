@@ -1,16 +1,16 @@
 -- The scope of a function, as its parameters are added.
-use Rattle.std.proofs.Common.{◌≡◌, ℕ, suc, ◌+◌, Bool, true, false, ◌||◌, List, [], ◌∷◌, ◌++◌, length, Option, Some, None, refl, sym, ap, subst, ◌∙◌, append_assoc, arith}
+use Rattle.std.proofs.Common.{◌≡◌, ℕ, suc, ◌+◌, Bool, true, false, ◌||◌, List, [], ◌∷◌, ◌++◌, length, Some, None, refl, sym, ap, subst, ◌∙◌, append_assoc, arith}
 use Rattle.std.specs.Prelude.{is_some, if◌then◌else◌}
-use Rattle.std.specs.List.{list_any, AllByRecursion}
+use Rattle.std.specs.List.{AllByRecursion}
 use Rattle.std.specs.Str.{bytes_eq}
 use Rattle.step_meaning.specs.declared.value.CType.{CType}
 use Rattle.step_meaning.specs.declared.value.NameKind.TheVariants as names
 use Rattle.step_meaning.specs.declared.program.Declared.{Declared as Named}
 use Rattle.typing_rules.specs.declared.operand.Entry.{Entry}
 use Rattle.typing_rules.specs.declared.operand.Entry.TheVariants as entry
-use Rattle.typing_rules.specs.Environment.{Environment, Scope, found_in}
+use Rattle.typing_rules.specs.Environment.{Scope, found_in}
 use Rattle.typing_rules.specs.Declarations.{is_within_limit}
-use Rattle.typing_rules.specs.FileScope.{Program, tags as tags_of, seen_now}
+use Rattle.typing_rules.specs.FileScope.{tags as tags_of, seen_now}
 use Rattle.typing_rules.specs.Functions.{is_repeated, declared_name, parameter_entries, parameter_scope, with_parameters}
 use Rattle.typing_rules.specs.Statements.{innermost}
 use Rattle.typing_laws.specs.SmallTypes.{IsSmall}

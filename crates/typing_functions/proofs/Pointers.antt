@@ -1,6 +1,5 @@
 -- Pointers to `void`, and `int`.
-use Rattle.std.proofs.Common.{◌≡◌, ℕ, Bool, true, false, ◌&&◌, ◌||◌, not, List, [], ◌∷◌, map, Ok, refl, sym, ap, ◌∙◌}
-use Rattle.std.specs.List.{AllByRecursion}
+use Rattle.std.proofs.Common.{◌≡◌, ℕ, true, false, List, [], ◌∷◌, refl}
 use Rattle.step_meaning.specs.declared.value.IntKind.{IntKind}
 use Rattle.step_meaning.specs.declared.value.CType.{CType, end_of-CType, more_of-CType}
 use Rattle.step_meaning.specs.declared.value.CType.TheVariants as type
@@ -8,7 +7,7 @@ use Rattle.step_meaning.specs.declared.value.CType.TheVariants.{Pointer, Array}
 use Rattle.step_meaning.specs.declared.value.CType.TheBlock.{shape-the_row-CType-0, hidden-the_row-CType-0}
 use denote.Hole.Carrier.{hidden}
 use Rattle.step_meaning.specs.Types.{same_type}
-use Rattle.step_meaning.specs.ExpressionTypes.{pointer_to, is_void}
+use Rattle.step_meaning.specs.ExpressionTypes.{is_void}
 use Rattle.typing_rules.specs.Declarations.{Layer, Pointing, Sized, layered}
 use Rattle.typing_rules.specs.Functions.{is_void_pointer}
 use Rattle.typing_declarators.specs.Types.{is_specified}

@@ -1,6 +1,6 @@
 -- The types of parameters, and functions by their names.
 use Rattle.std.proofs.Common.{◌≡◌, ◌≢◌, ℕ, zero, suc, ◌+◌, ◌<◌, ◌≤◌, Bool, true, false, ◌&&◌, ◌||◌, not, List, [], ◌∷◌, map, drop, get_or, length, Some, None, refl, sym, ap, subst, ◌∙◌, arith}
-use Rattle.std.specs.Prelude.{slice_get, nat_eq, position}
+use Rattle.std.specs.Prelude.{slice_get, nat_eq}
 use Rattle.std.specs.List.{list_any, AllByRecursion}
 use Rattle.std.specs.Str.{bytes_eq}
 use Rattle.std.proofs.lemmas.Bool.{ne_eqb}
@@ -11,8 +11,7 @@ use Rattle.step_meaning.specs.Identifiers.{are_distinct}
 use Rattle.step_meaning.specs.Types.{same_type}
 use Rattle.step_meaning.proofs.Ranges.{left_of_and, right_of_and}
 use Rattle.typing_rules.specs.Functions.{types_of, are_same, function_number}
-use Rattle.typing_laws.proofs.Completion.{bytes_same, bytes_itself}
-use Rattle.typing_laws.proofs.DeclaredNames.{not_false}
+use Rattle.typing_laws.proofs.Completion.{bytes_same}
 use Rattle.typing_laws.proofs.Positions.{false_or_left, false_or_right, FoundAt, found_at, none_passes}
 use Rattle.typing_files.proofs.Names.{names_turned}
 

@@ -1,5 +1,5 @@
 -- Functions, step by step.
-use Rattle.std.specs.Prelude.{◌≡◌, ℕ, length, List, [], Option, Some, None, Ok, is_some, slice_get}
+use Rattle.std.specs.Prelude.{◌≡◌, ℕ, length, List, [], Option, Some, None, is_some, slice_get}
 use Rattle.c_words.specs.declared.word.Leaf.{Leaf}
 use Rattle.step_meaning.specs.declared.value.CType.{CType}
 use Rattle.step_meaning.specs.declared.program.Declared.{Declared as Named}

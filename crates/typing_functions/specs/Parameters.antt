@@ -1,5 +1,5 @@
 -- Parameters, step by step.
-use Rattle.std.specs.Prelude.{◌≡◌, ℕ, Bool, false, true, List, [], ◌∷◌, ◌++◌, map, Ok, IsTrue}
+use Rattle.std.specs.Prelude.{◌≡◌, Bool, false, true, List, [], ◌∷◌, ◌++◌, map, Ok, IsTrue}
 use Rattle.std.specs.List.{AllByRecursion}
 use Rattle.c_words.specs.declared.chain.Chain.{Chain}
 use Rattle.c_grammar.specs.declared.declaration.Parameter.{Parameter as ParameterTree}

@@ -100,8 +100,14 @@ fn defined<'t>(
     let shared = Body { alloc, returns };
     let statements = shared.statements(known, false, body)?;
     let locals = known.end_function(alloc);
-    let function =
-        defined_function(alloc, known.bytes(name), returns, params, locals, statements)?;
+    let function = defined_function(
+        alloc,
+        known.bytes(name),
+        returns,
+        params,
+        locals,
+        statements,
+    )?;
     known.set_function(number, function);
     Ok(())
 }

@@ -166,7 +166,11 @@ fn is_wrong(known: &Known<'_>, name: &[u8], signature: Signature<'_>) -> bool
     ensures { result ≡ signatures.is_wrong (program known.now) name.now signature.entry.returns.now known.now.locals signature.entry.defined }
 {
     is_other_main(name, signature.returns, known.locals.as_slice())
-        || is_wrong_result(known, declares_allocation(name, signature.defined), signature.returns)
+        || is_wrong_result(
+            known,
+            declares_allocation(name, signature.defined),
+            signature.returns,
+        )
 }
 
 /// Whether the name has another declaration that this one can't stand beside.

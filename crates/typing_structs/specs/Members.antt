@@ -1,5 +1,5 @@
 -- Members of a struct, step by step.
-use Rattle.std.specs.Prelude.{◌≡◌, false, List, [], ◌∷◌, ◌++◌, map, Ok}
+use Rattle.std.specs.Prelude.{false, List, [], ◌∷◌, ◌++◌, map}
 use Rattle.c_words.specs.declared.word.Leaf.{Leaf}
 use Rattle.c_words.specs.declared.chain.Chain.{Chain}
 use Rattle.c_grammar.specs.declared.declaration.Declarator.{Declarator as DeclaratorTree}

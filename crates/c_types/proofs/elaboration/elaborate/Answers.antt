@@ -1,4 +1,3 @@
-use Rattle.std.proofs.Common.{ap}
 use Rattle.typing_rules.specs.Checked.{Gives}
 use Rattle.typing_rules.specs.Programs.{elaboration}
 use Rattle.typing_scopes.specs.Known.{program}

@@ -9,5 +9,5 @@ use Rattle.c_types.proofs.items.items.Given as goal
 abbrev pub invariant-loop-tree : goal.invariant-loop-tree
 invariant-loop-tree l = record {
   runs : items (map item_tree l.fn.all) (program l.fn.known) ≡ run item (map item_tree (drop l.tree-index l.fn.all)) (program l.known);
-  at : IsAtFile l.known
+  at : IsAtFile l.known;
 }

@@ -1,4 +1,4 @@
-use Rattle.std.proofs.Common.{length, refl, ap, ◌∙◌}
+use Rattle.std.proofs.Common.{length, refl, ap}
 use Rattle.step_meaning.specs.declared.value.CType.TheVariants.{Struct}
 use Rattle.typing_rules.specs.FileScope.{variables as variables_rule}
 use Rattle.typing_rules.specs.Structs.{structure as structure_rule}

@@ -1,4 +1,4 @@
-use Rattle.std.proofs.Common.{◌≡◌, ◌-◌, ◌≤◌, length, arith}
+use Rattle.std.proofs.Common.{arith}
 use Rattle.typing_files.proofs.CellSums.{declared_first, none_declared}
 use Rattle.typing_files.proofs.sizes.room_beside.Goals as goal
 

@@ -1,5 +1,4 @@
-use Rattle.std.proofs.Common.{Ok, Err, Some, ap, sym, subst, ◌∙◌}
-use Rattle.typing_rules.specs.Checked.{Gives}
+use Rattle.std.proofs.Common.{Ok, ap, sym, ◌∙◌}
 use Rattle.typing_rules.specs.FileScope.{first_values}
 use Rattle.typing_rules.specs.Initialisers.{initial_values, uninitialised}
 use Rattle.typing_rules.specs.TreesOfDeclarations.{declared, init}

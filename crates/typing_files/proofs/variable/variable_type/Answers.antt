@@ -1,6 +1,5 @@
-use Rattle.std.proofs.Common.{◌≡◌, ◌≤◌, Ok, Err, ap, subst, ◌∙◌}
+use Rattle.std.proofs.Common.{◌≤◌, Ok, Err, ap, subst, ◌∙◌}
 use Rattle.std.specs.Prelude.{IfOk}
-use Rattle.step_meaning.specs.declared.value.CType.{CType}
 use Rattle.typing_rules.specs.Checked.{Checked, Gives}
 use Rattle.typing_rules.specs.Declarations.{count_of}
 use Rattle.typing_rules.specs.TreesOfDeclarations.{declared, declarator}

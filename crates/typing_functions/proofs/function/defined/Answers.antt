@@ -1,17 +1,16 @@
 use Rattle.std.proofs.Common.{◌≡◌, ◌<◌, Ok, get_or, length, refl, sym, ap, subst, ◌∙◌}
 use Rattle.step_meaning.specs.declared.program.Function.{Function as CoreFunction}
 use Rattle.typing_rules.specs.FileScope.{Program, bytes, tags}
-use Rattle.typing_rules.specs.Functions.{defined_function as defined_rule, replaced}
+use Rattle.typing_rules.specs.Functions.{replaced}
 use Rattle.typing_rules.specs.TreesOfDeclarations.{block}
 use Rattle.typing_laws.specs.SmallPrograms.{HasNoArray}
-use Rattle.typing_declarators.proofs.LayerLaws.{same_Ok}
-use Rattle.typing_scopes.specs.Known.{program, frame}
+use Rattle.typing_scopes.specs.Known.{program}
 use Rattle.typing_files.specs.Points.{IsSteady}
 use Rattle.typing_files.proofs.Outcomes.{fails}
 use Rattle.typing_files.proofs.Points.{still_at}
 use Rattle.typing_statements.specs.Points.{frame_at}
-use Rattle.typing_functions.specs.Functions.{IsDeclared, with_statements, with_body}
-use Rattle.typing_functions.proofs.FunctionLaws.{ready_at, body_broken, body_made, made_function, outside_program, outside_tags, frame_is, declared_within, declared_named, replaced_steady, ended_at}
+use Rattle.typing_functions.specs.Functions.{IsDeclared, with_body}
+use Rattle.typing_functions.proofs.FunctionLaws.{ready_at, body_broken, body_made, made_function, outside_program, outside_tags, declared_within, declared_named, replaced_steady, ended_at}
 use Rattle.typing_functions.proofs.function.defined.Goals as goal
 
 pub statements-requires : goal.statements-requires

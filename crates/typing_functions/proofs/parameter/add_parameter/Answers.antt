@@ -1,7 +1,5 @@
-use Rattle.std.proofs.Common.{◌≡◌, ap, ◌∙◌}
-use Rattle.typing_rules.specs.Functions.{is_repeated, name_of}
-use Rattle.typing_rules.specs.TreesOfDeclarations.{parameter}
-use Rattle.typing_scopes.specs.Known.{program}
+use Rattle.std.proofs.Common.{ap, ◌∙◌}
+use Rattle.typing_rules.specs.Functions.{is_repeated}
 use Rattle.typing_files.proofs.Outcomes.{on_ok}
 use Rattle.typing_functions.proofs.ParameterScopes.{block_has, parameter_at}
 use Rattle.typing_functions.proofs.parameter.add_parameter.Goals as goal

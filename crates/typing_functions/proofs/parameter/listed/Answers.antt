@@ -55,7 +55,7 @@ loop-link-preserved c =
     let count = ap length same in
     record {
       runs = at.invariant.runs ∙ run_item (λ (x : Parameter) (ps : List Named). parameter_rule p a ps x) (λ x. parameter_tree x.operand) c.args.trees.now.rest at.link-index c.link-item.result at.known.locals c.parameter-in-loop-link.new.known.locals (omega (arith, c.loop-link-test.true, count)) (c.link-item.is ∙ ap (λ xs. get_or xs at.link-index c.link-item.result) same)
-      (ap (λ q. parameter_rule q a at.known.locals (parameter_tree c.link-item.result.operand)) (sym at.invariant.same) ∙ c.in_ok-parameter-2.ensures.becomes);
+          (ap (λ q. parameter_rule q a at.known.locals (parameter_tree c.link-item.result.operand)) (sym at.invariant.same) ∙ c.in_ok-parameter-2.ensures.becomes);
       same = c.in_ok-parameter-2.ensures.same ∙ at.invariant.same;
       at = c.in_ok-parameter-2.ensures.at;
     }

@@ -10,5 +10,5 @@ abbrev pub invariant-loop-link : goal.invariant-loop-link
 invariant-loop-link l = record {
   runs : parameters (program l.fn.known) l.fn.allocation l.fn.known.locals (parameters_in l.fn.trees) ≡ run (λ x ps. parameter (program l.fn.known) l.fn.allocation ps x) (map (λ x. parameter_tree x.operand) (drop l.link-index l.fn.trees.rest)) l.known.locals;
   same : program l.known ≡ program l.fn.known;
-  at : IsInFunction l.known
+  at : IsInFunction l.known;
 }

@@ -1,8 +1,7 @@
-use Rattle.std.proofs.Common.{true, false, ap, ◌∙◌}
+use Rattle.std.proofs.Common.{ap, ◌∙◌}
 use Rattle.typing_rules.specs.Environment.{is_reserved}
-use Rattle.typing_rules.specs.Functions.{is_repeated, name_of, place_of_parameter}
+use Rattle.typing_rules.specs.Functions.{is_repeated}
 use Rattle.typing_rules.specs.TreesOfDeclarations.{parameter}
-use Rattle.typing_declarators.specs.declared.name.DeclaredName.{DeclaredName}
 use Rattle.typing_scopes.specs.Known.{known as seen, program}
 use Rattle.typing_functions.proofs.ParameterScopes.{block_has}
 use Rattle.typing_functions.proofs.ParameterTypes.{same_name}

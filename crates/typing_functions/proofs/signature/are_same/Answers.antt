@@ -1,4 +1,4 @@
-use Rattle.std.proofs.Common.{sym, arith}
+use Rattle.std.proofs.Common.{sym}
 use Rattle.typing_functions.proofs.Signatures.{other_lengths}
 use Rattle.typing_functions.proofs.signature.are_same.Goals as goal
 

@@ -1,4 +1,4 @@
-use Rattle.std.proofs.Common.{◌≡◌, drop, length}
+use Rattle.std.proofs.Common.{◌≡◌, drop}
 use Rattle.typing_rules.specs.Functions.{types_of, are_same}
 use Rattle.typing_functions.proofs.signature.are_same.Given as goal
 

@@ -1,4 +1,4 @@
-use Rattle.std.proofs.Common.{[], drop, map, length, List, Ok, ap, sym, ◌∙◌, arith}
+use Rattle.std.proofs.Common.{[], map, List, Ok, ap, sym, ◌∙◌, arith}
 use Rattle.step_meaning.specs.declared.program.Declared.{Declared as Named}
 use Rattle.typing_rules.specs.Syntax.{Members}
 use Rattle.typing_rules.specs.Structs.{all_members as all_members_rule}

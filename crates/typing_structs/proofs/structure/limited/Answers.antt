@@ -1,4 +1,4 @@
-use Rattle.std.proofs.Common.{◌-◌, sum_by, ap, sym, arith}
+use Rattle.std.proofs.Common.{◌-◌, sum_by, ap, arith}
 use Rattle.step_meaning.specs.TypeRules.{cells}
 use Rattle.typing_scopes.specs.Known.{program}
 use Rattle.typing_structs.proofs.StructLaws.{too_large, within_limit}

@@ -1,7 +1,6 @@
-use Rattle.std.proofs.Common.{◌≡◌, ◌≤◌, [], length, Ok, Err, ap, sym, subst, ◌∙◌}
-use Rattle.typing_rules.specs.Checked.{◌>>=◌}
-use Rattle.typing_rules.specs.FileScope.{Program, bytes}
-use Rattle.typing_rules.specs.Structs.{all_members, tag_declarable, with_layout, structure as structure_rule}
+use Rattle.std.proofs.Common.{◌≡◌, ◌≤◌, [], length, Ok, ap, sym, subst, ◌∙◌}
+use Rattle.typing_rules.specs.FileScope.{bytes}
+use Rattle.typing_rules.specs.Structs.{all_members, with_layout, structure as structure_rule}
 use Rattle.typing_scopes.specs.Known.{program}
 use Rattle.typing_files.specs.Points.{Becomes}
 use Rattle.typing_files.proofs.Outcomes.{fails}
