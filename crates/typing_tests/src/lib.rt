@@ -14,6 +14,8 @@ mod name_tests;
 #[cfg(test)]
 mod operator_tests;
 #[cfg(test)]
+mod refusal_tests;
+#[cfg(test)]
 mod shown;
 #[cfg(test)]
 mod statement_tests;
