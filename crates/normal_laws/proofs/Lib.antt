@@ -1,0 +1,16 @@
+pub mod Registers
+pub mod Emission
+pub mod Growth
+pub mod Forms
+pub mod ExpressionsAgree
+pub mod StatementsAgree
+pub mod Numbering
+pub mod ProgramsAgree
+pub mod Emitted
+pub mod Shape
+pub mod CellParts
+pub mod TypesOfParts
+pub mod SourceExpressions
+pub mod SourceCores
+pub mod NormalFormExamples
+pub mod SourceCoreExamples

@@ -1,0 +1,4 @@
+pub mod NormalForm
+pub mod SourceCode
+pub mod Agreement
+pub mod Shape
