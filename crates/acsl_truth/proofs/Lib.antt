@@ -1,0 +1,5 @@
+pub mod AccessLaws
+pub mod LocationLaws
+pub mod PredicateViews
+pub mod RangeLaws
+pub mod StructMembers

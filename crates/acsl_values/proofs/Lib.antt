@@ -1,0 +1,3 @@
+pub mod BoundedParts
+pub mod CellLaws
+pub mod TermViews

@@ -1,0 +1,12 @@
+pub mod GoodTypes
+pub mod TypedOperands
+pub mod GoodStatements
+pub mod GoodForms
+pub mod PromotedKinds
+pub mod GoodAssignments
+pub mod GoodCalls
+pub mod GoodExpressions
+pub mod GoodBodies
+pub mod LowStatements
+pub mod GoodPrograms
+pub mod SmallPrograms
