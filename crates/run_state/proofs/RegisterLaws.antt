@@ -1,14 +1,13 @@
 -- The registers of all activations in one list.
-use Rattle.std.proofs.Common.{◌≡◌, ℕ, zero, suc, ◌+◌, ◌-◌, ◌<◌, ◌≤◌, List, [], ◌∷◌, ◌++◌, length, map, take, drop, set, get_or, Option, Some, None, refl, sym, ap, ◌∙◌, arith}
+use Rattle.std.proofs.Common.{◌≡◌, ℕ, zero, suc, ◌+◌, ◌<◌, ◌≤◌, List, [], ◌∷◌, ◌++◌, length, map, take, drop, set, get_or, Some, None, refl, sym, ap, ◌∙◌, arith}
 use Rattle.std.specs.Prelude.{Bool, if◌then◌else◌, slice_get}
 use Rattle.std.proofs.lemmas.List.{length-drop, take_all, drop_all, take-append-le, drop-append-le}
 use Rattle.step_meaning.specs.declared.value.Value.{Value}
-use Rattle.step_meaning.specs.declared.value.Cell.{Cell}
 use Rattle.step_meaning.specs.declared.value.Cell.TheVariants.{Holds}
 use Rattle.step_meaning.specs.declared.value.CType.{CType}
 use Rattle.step_meaning.specs.Types.{same_type}
-use Rattle.step_meaning.specs.Memory.{Slot, typed}
-use Rattle.step_meaning.specs.State.{Registers, register_at, set_register}
+use Rattle.step_meaning.specs.Memory.{typed}
+use Rattle.step_meaning.specs.State.{register_at, set_register}
 use Rattle.run_state.specs.declared.registers.Register.{Register}
 use Rattle.run_state.specs.Registers.{innermost, with_innermost, total, slot_of, parted, AreStarts, IsPlace, IsPast}
 

@@ -1,5 +1,5 @@
 -- The state of the machine as the definitions see it: references stand for what they show.
-use Rattle.std.specs.Prelude.{ℕ, List, [], ◌∷◌, drop, Option, Some, None, slice_get}
+use Rattle.std.specs.Prelude.{ℕ, List, [], ◌∷◌, drop, length, Option, Some, None, slice_get}
 use Rattle.step_meaning.specs.State.{Lvalue, InRegister, At, Registers}
 use Rattle.step_meaning.specs.Statements.{Completion, Next, Broken, Continued, Returned}
 use Rattle.run_state.specs.declared.work.Located.{Located}
@@ -158,7 +158,12 @@ configuration_of m =
       allocated = m.allocated;
     }
 
--- what stays the same in a run: the program, and the room that was taken for it
+-- how many registers each open activation has
+abbrev pub sizes_of : List Registers → List ℕ
+sizes_of [] = []
+sizes_of (r ∷ rs) = length r ∷ sizes_of rs
+
+-- what stays the same in a run: the program, and the room that was taken for it; and how many registers each open activation has, which stays the same until one begins or ends
 pub record Fixed : Type 0 where
   pub core : Core
   pub work : ℕ
@@ -170,6 +175,8 @@ pub record Fixed : Type 0 where
   pub ghost_calls : ℕ
   pub registers : ℕ
   pub register_calls : ℕ
+  -- the innermost first
+  pub sizes : List ℕ
 
 abbrev pub fixed_of : Machine → Fixed
 fixed_of m =
@@ -184,4 +191,9 @@ fixed_of m =
       ghost_calls = m.ghosts.call_limit;
       registers = m.registers.room;
       register_calls = m.registers.calls;
+      sizes = sizes_of m.registers.activations;
     }
+
+-- where the innermost activation has ended
+abbrev pub ended : Fixed → Fixed
+ended f = record f { sizes = drop 1 f.sizes }

@@ -122,13 +122,12 @@ impl<'a> Registers<'a> {
         }
     }
 
-    /// The innermost activation ends, and with it its registers.
+    /// The innermost activation ends, if there is one, and with it its registers.
     pub fn close(&mut self)
-        requires { 0 < length self.old.activations }
         ensures { self.new ≡ record self.old { activations = drop 1 self.old.activations } }
     {
         match self.starts.pop() {
-            None => unreachable!(),
+            None => {}
             Some(start) => self.cells.truncate(start),
         }
     }

@@ -13,3 +13,5 @@ pub mod Devices
 pub mod StartTyped
 pub mod ValuesHeld
 pub mod TurnValues
+pub mod ActivationsKept
+pub mod ArgumentsCounted

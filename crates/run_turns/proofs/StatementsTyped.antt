@@ -1,5 +1,5 @@
 -- What a turn at a statement leaves is typed: its start, its conclusion, loops and blocks.
-use Rattle.std.proofs.Common.{◌≡◌, ℕ, zero, suc, ◌<◌, ◌^◌, Bool, true, false, cond, List, [], ◌∷◌, length, Option, Some, None, refl, arith}
+use Rattle.std.proofs.Common.{◌≡◌, ℕ, zero, suc, ◌<◌, ◌^◌, Bool, true, false, cond, List, [], ◌∷◌, length, Option, Some, None, is_some, refl, arith}
 use Rattle.std.specs.Prelude.{nat_le, option_map, slice_get}
 use Rattle.std.specs.List.{AllByRecursion}
 use Rattle.step_meaning.specs.declared.value.CType.{CType}
@@ -104,13 +104,17 @@ module _ (q : Core) (f : Function) (fs : List Function) where
       let g = return_given f.result e h in
       (s, (given_is_there f.result e g, λ v x. k (Some v) (returns_value f.result e v h (given_fits f.result e v g x))))
 
+  has_variable : (u : Option CType) (o : ℕ) (t : CType) → has_this_type t (cell_type q f u o) ≡ true → is_some u ≡ true
+  has_variable None o t e = false_is_not_true e
+  has_variable (Some u) o t e = refl
+
   pub executed_typed : ShortLocals → (x : Stmt) (m : Configuration) → Fits q f fs m → Executes q f x (Ends m) → Here q f fs (turns.executed x (ready m))
   executed_typed shorts st.Empty m s h = (s, h.3 Next tt)
   executed_typed shorts (st.Eval e) m s h = (s, (h.2.0, λ v x. h.3 Next tt))
   executed_typed shorts (st.Init x o t e) m s h =
       let c = right_of_and (nat_le f.params x.index) _ (right_of_and (same_kind x.kind Local) _ h.2.0) in
       let given = right_of_and (has_this_type t (cell_type q f (variable_type (code_setting q f) x) o)) _ c in
-      (s, (given_is_there t e given, λ v y. (init_place shorts x.kind x.index o t (left_of_and (same_kind x.kind Local) _ h.2.0) (left_of_and (has_this_type t (cell_type q f (variable_type (code_setting q f) x) o)) _ c), given_fits t e v given y, h.3 Next tt)))
+      (s, (given_is_there t e given, λ v y. (init_place shorts x.kind x.index o t (left_of_and (same_kind x.kind Local) _ h.2.0) (left_of_and (has_this_type t (cell_type q f (variable_type (code_setting q f) x) o)) _ c), given_fits t e v given y, h.3 Next tt, has_variable (variable_type (code_setting q f) x) o t (left_of_and (has_this_type t (cell_type q f (variable_type (code_setting q f) x) o)) _ c))))
   executed_typed shorts (st.Block' b ss) m s h = (s, (h.0, h.1, row_fits h.0 h.1 ss h.2.0 h.2.1, h.3))
   executed_typed shorts (st.If' e b (more_of-Stmt a end_of-Stmt) c (more_of-Stmt u end_of-Stmt)) m s h = (s, (condition_is_there e h.2.0.0, λ v x. ((h.0, h.1, (h.2.0.1, left_of_and (is_bare a) _ h.2.1), h.3), (h.0, h.1, (h.2.0.2, right_of_and (is_bare a) _ h.2.1), h.3))))
   executed_typed shorts (st.While' e b (more_of-Stmt a end_of-Stmt)) m s h = (s, (tt, h))

@@ -15,10 +15,10 @@ use Rattle.run_turns.specs.Pending as pending
 use Rattle.run_turns.specs.Turns as turns
 use Rattle.run_turns.specs.Turns.{Configuration, Turn, ready, telling, turn_at}
 use Rattle.run_turns.specs.Weight.{weight, load}
-use Rattle.run_turns.specs.Room.{need, Roomy}
+use Rattle.run_turns.specs.Room.{need, arguments_below}
 use Rattle.run_turns.specs.Typed.{Takes, TakesEnd, IsLoop, PassingTakes}
 use Rattle.run_turns.proofs.Falls.{Falls, evaluated_falls, located_falls, executed_falls, operated_falls, accessed_falls, selected_falls, designating_falls, concluded_falls, next_falls, turn_end_falls}
-use Rattle.run_turns.proofs.RoomLaw.{Fits, evaluated_fits, located_fits, executed_fits, operated_fits, accessed_fits, selected_fits, designating_fits, concluded_fits, passed_fits, arguing_fits, argued_fits, given_back_fits}
+use Rattle.run_turns.proofs.RoomLaw.{Fits, FitsAbove, HasRoom, evaluated_fits, located_fits, executed_fits, operated_fits, accessed_fits, selected_fits, designating_fits, concluded_fits, passed_fits, arguing_fits, argued_fits, given_back_fits}
 use Rattle.run_turns.proofs.RoomLaw as room_law
 use Rattle.run_turns.proofs.CallsTyped.{IsInner}
 
@@ -213,7 +213,7 @@ module _ (q : Core) (h : Rattle.step_meaning.specs.WellFormed.IsWellFormed q) (f
   IsLeft (Returned v) = Unit {0}
   IsLeft l = ⊥
 
-  passed_left : (room : ℕ) (x : pending.Passing) (l : Completion) (m : Configuration) → IsLeft l → Fits room (need (pending.Pass x)) m → Roomy room (turns.passed x l m).after.work
+  passed_left : (room : ℕ) (x : pending.Passing) (l : Completion) (m : Configuration) → IsLeft l → Fits room (need (pending.Pass x)) m → HasRoom room (turns.passed x l m).after
   passed_left room (pending.Rest ss) Broken m i h = h.1
   passed_left room (pending.Rest ss) (Returned v) m i h = h.1
   passed_left room (pending.Again s) Broken m i h = h.1
@@ -223,7 +223,7 @@ module _ (q : Core) (h : Rattle.step_meaning.specs.WellFormed.IsWellFormed q) (f
   passed_left room x Next m i h = absurd i
   passed_left room x Continued m i h = absurd i
 
-  pub turn_fits : (room : ℕ) (p : pending.Pending) (t : pending.Told) → IsInner q h f fs p → (m : Configuration) → Takes q (f ∷ fs) m.context.arguments (p ∷ m.work) t → Fits room (need p) m → Roomy room (turn_at q p t (telling t m)).after.work
+  pub turn_fits : (room : ℕ) (p : pending.Pending) (t : pending.Told) → IsInner q h f fs p → (m : Configuration) → Takes q (f ∷ fs) m.context.arguments (p ∷ m.work) t → FitsAbove room (arguments_below p m.context.arguments) (need p) m → HasRoom room (turn_at q p t (telling t m)).after
   turn_fits room (pending.Evaluate e) (pending.Gave v) i m k h = absurd k
   turn_fits room (pending.Evaluate e) (pending.Found l) i m k h = absurd k
   turn_fits room (pending.Evaluate e) (pending.Left Next) i m k h = evaluated_fits room e (ready m) h

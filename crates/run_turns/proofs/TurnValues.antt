@@ -36,7 +36,7 @@ use Rattle.step_meaning.specs.Calls.{value_or_zero}
 use Rattle.run_turns.specs.Pending as pending
 use Rattle.run_turns.specs.Turns as turns
 use Rattle.run_turns.specs.Turns.{Configuration, ready, telling, turn_at}
-use Rattle.run_turns.specs.Typed.{IsTypablePlace, Takes}
+use Rattle.run_turns.specs.Typed.{ConclusionTakes, IsTypablePlace, Takes}
 use Rattle.run_turns.proofs.CallsTyped.{IsInner}
 use Rattle.run_turns.specs.Values.{LvalueHas, OptionHas, CompletionHas, ToldHas, OperandHas, DesignationHas, PartHas, CellHas, BlockHas, MemoryHas, RegistersHave, KeptHas, StateHas}
 use Rattle.run_turns.proofs.ValuesHeld.{IgnoresOffsets, OkHas, WhereSome, truth_has, moved_has, stored_has, reached_has, register_has, set_register_has, unset_has, freed_has, tail_has}
@@ -350,6 +350,24 @@ module _ (P : Value → Type 0) (closed : IgnoresOffsets P) where
   module _ (q : Core) (h : Rattle.step_meaning.specs.WellFormed.IsWellFormed q) (f : Function) (fs : List Function) (activation : ℕ) (own : OwnHave q f activation) where
     abbrev pub InitHave : Stmt → Type 0
     InitHave x = (y : Variable) (o : ℕ) (t : CType) (e : Expr) → x ≡ st.Init y o t e → LvalueHas P (designated activation y o)
+
+    -- the variable of an initialiser is the function's own
+    pub inits : (takes : Completion → Type 0) (x : Stmt) (v : Value) → ConclusionTakes q f takes x v → InitHave x
+    inits takes (st.Init z i u d) v c y o t e r =
+        let same : z ≡ y = cc in
+        own y o (subst (λ n. IsTrue (is_some (Rattle.step_meaning.specs.Settings.variable_type (Rattle.step_meaning.specs.Settings.code_setting q f) n))) same c.3)
+    inits takes st.Empty v c y o t e r = cc
+    inits takes (st.Eval d) v c y o t e r = cc
+    inits takes (st.Block' b ss) v c y o t e r = cc
+    inits takes (st.If' d b n c' n') v c y o t e r = cc
+    inits takes (st.While' d b n) v c y o t e r = cc
+    inits takes (st.Do' b n d) v c y o t e r = cc
+    inits takes (st.For' test step b n) v c y o t e r = cc
+    inits takes st.Break v c y o t e r = cc
+    inits takes st.Continue v c y o t e r = cc
+    inits takes (st.Return d) v c y o t e r = cc
+    inits takes (st.Ghost g) v c y o t e r = cc
+    inits takes (st.Assert w k p) v c y o t e r = cc
 
     pub turn_values : (p : pending.Pending) (t : pending.Told) → IsInner q h f fs p → (m : Configuration) → m.context.here.activation ≡ activation → P (block_pointer m.allocated) → ((x : Stmt) → p ≡ pending.Conclude x → InitHave x) → Takes q (f ∷ fs) m.context.arguments (p ∷ m.work) t → ToldHas P t → PartHas P p → Works m → Kept m → StateHas P (turn_at q p t (telling t m)).after
     turn_values (pending.Evaluate x) (pending.Gave v) i m at fresh init c u a w k = absurd c

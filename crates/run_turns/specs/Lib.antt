@@ -6,3 +6,4 @@ pub mod Weight
 pub mod Room
 pub mod Typed
 pub mod Values
+pub mod Activations

@@ -1,5 +1,6 @@
--- How much room a pending part needs on the stack from its own place on: its height above what stands below it.
-use Rattle.std.specs.Prelude.{ℕ, ◌+◌, ◌≤◌, max, List, [], ◌∷◌, length, Option, Some, None}
+-- How much room a pending part needs on the stack from its own place on: its height above what stands below it, with the arguments that are evaluated above it.
+use Rattle.std.specs.Prelude.{ℕ, suc, ◌+◌, ◌*◌, ◌≤◌, max, List, [], ◌∷◌, length, drop, Option, Some, None}
+use Rattle.step_meaning.specs.declared.value.Value.{Value}
 use Rattle.step_meaning.specs.declared.expr.Expr.{Expr, Row_of-Expr, end_of-Expr, more_of-Expr}
 use Rattle.step_meaning.specs.declared.expr.Expr.TheVariants.{Literal, Null, Load, Address, Convert', Unary', Binary', Compare', Move', Difference', Not', Both', Either', Choose', Assign', Update', Invoke', GetChar, PutChar', Malloc', Free', Discard', Own, Deref', Member', Index'}
 use Rattle.step_meaning.specs.declared.expr.Place_.{Place_, end_of-Place_, more_of-Place_}
@@ -40,11 +41,11 @@ abbrev mutual
 
   pub depth_row : {n : _} → Row_of-Expr n → ℕ
   depth_row end_of-Expr = 3
-  depth_row (more_of-Expr e more) = max (depth e + 1) (depth_row more)
+  depth_row (more_of-Expr e more) = max (depth e + 1) (depth_row more + 1)
 
 abbrev pub depth_all : List Expr → ℕ
 depth_all [] = 3
-depth_all (e ∷ es) = max (depth e + 1) (depth_all es)
+depth_all (e ∷ es) = max (depth e + 1) (depth_all es + 1)
 
 abbrev pub depth_if_any : Option Expr → ℕ
 depth_if_any None = 3
@@ -123,10 +124,31 @@ need (pending.Select x) = need_of_selection x
 need (pending.Conclude s) = need_of_conclusion s
 need (pending.Pass x) = need_of_passing x
 need (pending.Arguments f es n) = depth_all es
-need (pending.Argument f es n) = depth_all es
+need (pending.Argument f es n) = depth_all es + 1
 need _ = 3
 
--- what is on the stack has the room that it needs
-abbrev pub Roomy : ℕ → List pending.Pending → Type 0
-Roomy room [] = Unit {0}
-Roomy room (p ∷ ps) = (length ps + need p ≤ room) × Roomy room ps
+-- how many activations end on the stack
+abbrev pub open_ends : List pending.Pending → ℕ
+open_ends [] = 0
+open_ends (pending.Leave g t ∷ ps) = suc (open_ends ps)
+open_ends (_ ∷ ps) = open_ends ps
+
+-- the arguments below those of a call that is being made
+abbrev pub arguments_below : pending.Pending → List Value → List Value
+arguments_below (pending.Arguments f es n) vs = drop n vs
+arguments_below (pending.Argument f es n) vs = drop n vs
+arguments_below (pending.Enter f n) vs = drop n vs
+arguments_below _ vs = vs
+
+-- what is on the stack has the room that it needs beside the arguments evaluated so far, where each activation has so much room above its caller's
+abbrev pub Roomy : ℕ → List pending.Pending → List Value → Type 0
+Roomy room [] vs = Unit {0}
+Roomy room (p ∷ ps) vs = (length ps + length vs + need p ≤ room * suc (open_ends ps)) × Roomy room ps (arguments_below p vs)
+
+-- the arguments of each call that is being made are among those evaluated so far
+abbrev pub AreCounted : List pending.Pending → List Value → Type 0
+AreCounted [] vs = Unit {0}
+AreCounted (pending.Arguments f es n ∷ ps) vs = (n ≤ length vs) × AreCounted ps (drop n vs)
+AreCounted (pending.Argument f es n ∷ ps) vs = (n ≤ length vs) × AreCounted ps (drop n vs)
+AreCounted (pending.Enter f n ∷ ps) vs = (n ≤ length vs) × AreCounted ps (drop n vs)
+AreCounted (_ ∷ ps) vs = AreCounted ps vs

@@ -23,7 +23,7 @@ use Rattle.step_meaning.specs.Numbers.{is_right_operand}
 use Rattle.step_meaning.specs.Names.{integer, of_truth}
 use Rattle.step_meaning.specs.Conversions.{is_promoted}
 use Rattle.step_meaning.specs.Library.{int}
-use Rattle.step_meaning.specs.Settings.{Setting, code_setting}
+use Rattle.step_meaning.specs.Settings.{Setting, code_setting, variable_type}
 use Rattle.step_meaning.specs.Memory.{Memory}
 use Rattle.step_meaning.specs.State.{Registers, Lvalue, InRegister, At, designated}
 use Rattle.step_meaning.specs.Statements.{Completion, Next, Broken, Continued, Returned}
@@ -207,7 +207,7 @@ module _ (q : Core) where
   ExecutesInLoop f s takes = (noted : Setting) × IsCode f noted true s × ((l : Completion) → CompletionFits f.result true l → takes l)
 
   abbrev pub ConclusionTakes : Function → (Completion → Type 0) → Stmt → Value → Type 0
-  ConclusionTakes f takes (st.Init x o t e) v = ((activation : ℕ) → IsPlace (designated activation x o)) × InCell t v × takes Next
+  ConclusionTakes f takes (st.Init x o t e) v = ((activation : ℕ) → IsPlace (designated activation x o)) × InCell t v × takes Next × IsTrue (is_some (variable_type (code_setting q f) x))
   ConclusionTakes f takes (st.If' e b (more_of-Stmt s end_of-Stmt) c (more_of-Stmt u end_of-Stmt)) v = Executes f s takes × Executes f u takes
   ConclusionTakes f takes (st.While' e b (more_of-Stmt s end_of-Stmt)) v = ExecutesInLoop f s takes × takes Broken
   ConclusionTakes f takes (st.Do' b s e) v = takes Next × takes Broken

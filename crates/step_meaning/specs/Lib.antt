@@ -52,3 +52,4 @@ pub mod FitsBounded
 pub mod FoldPrefixes
 pub mod TracedPrefixes
 pub mod Strict
+pub mod LettingGo

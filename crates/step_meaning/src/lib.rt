@@ -4,6 +4,7 @@
 mod expr;
 mod integers;
 mod laws;
+mod letting_go;
 mod parts;
 mod pointers;
 mod predicate;

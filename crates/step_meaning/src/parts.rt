@@ -4,6 +4,7 @@
 ghost use Rattle.std.specs.Prelude.{◌≡◌, [], ◌∷◌, ◌++◌, length, slice_get, IfOk, OnOk};
 
 use crate::expr::{Expr, Place_};
+use crate::letting_go::{Rest, all_go, let_go};
 use crate::predicate::{Predicate, Term};
 use crate::stmt::Stmt;
 use sqlite_items::{Boxed, Items};
@@ -29,7 +30,8 @@ impl Model for ExprPart {
 
 impl Drop for ExprPart {
     fn drop(self) {
-        let ExprPart { inner: _inner } = self;
+        let ExprPart { inner } = self;
+        let_go(Rest::Value(inner.into_inner()));
     }
 }
 
@@ -78,7 +80,8 @@ impl Model for ExprsPart {
 
 impl Drop for ExprsPart {
     fn drop(self) {
-        let ExprsPart { inner: _inner } = self;
+        let ExprsPart { inner } = self;
+        all_go(inner);
     }
 }
 
@@ -146,7 +149,8 @@ impl Model for PlacePart {
 
 impl Drop for PlacePart {
     fn drop(self) {
-        let PlacePart { inner: _inner } = self;
+        let PlacePart { inner } = self;
+        let_go(Rest::Lvalue(inner.into_inner()));
     }
 }
 

@@ -1,3 +1,4 @@
-pub mod ConstantForms
 pub mod PlaceForms
 pub mod Wholes
+pub mod SpineForms
+pub mod SpineLaws

@@ -1,6 +1,6 @@
 //! Address constants (C11 6.6, 9), and what a cell of a variable of file scope starts with (C11 6.7.9, 4).
 
-ghost use Rattle.std.specs.Prelude.{◌≡◌, ◌<◌, ◌^◌, ◌*◌, ℕ, List, true, if◌then◌else◌, option_map, slice_get, Some};
+ghost use Rattle.std.specs.Prelude.{◌≡◌, ◌<◌, ◌^◌, ◌*◌, ℕ, List, true, if◌then◌else◌, option_map, slice_get, Some, IfOk};
 ghost use Rattle.step_meaning.specs.Types.{same_type as are_same};
 ghost use Rattle.step_meaning.specs.declared.program.Layout.{Layout};
 ghost use Rattle.step_meaning.specs.declared.program.Declared.{Declared};
@@ -13,6 +13,7 @@ ghost use Rattle.typing_constants.specs.Parts as parts;
 
 use crate::constant::constant;
 use core_types::{element_type, member_type, same_type};
+use std::alloc::{AllocError, Global};
 use step_meaning::{CType, Declared, Expr, Layout, Name, NameKind, Place_, Value, Variable};
 
 /// A part of a variable of file scope: the variable's number, the part's offset in cells, and its type.
@@ -224,19 +225,25 @@ fn initial_pointer(layouts: &[Layout], globals: &[Declared], x: &Expr) -> Option
 }
 
 /// What an expression of this type gives a cell of a variable of file scope, where the offset of an address is below 2^32
-/// (C11 6.6, 6 and 9; 6.7.9, 4).
+/// (C11 6.6, 6 and 9; 6.7.9, 4). An error is want of memory.
 #[tactic(auto, using(crate::proofs::PlaceForms::initials))]
-pub fn initial_value(layouts: &[Layout], globals: &[Declared], t: &CType, x: &Expr) -> Option<Value>
+pub fn initial_value(
+    alloc: Global,
+    layouts: &[Layout],
+    globals: &[Declared],
+    t: &CType,
+    x: &Expr,
+) -> Result<Option<Value>, AllocError>
     requires { (n : Name) (o : ℕ) → rules.initial_value layouts.now globals.now t.now x.now ≡ Some (value.Pointer n o) → o < 2 ^ 32 }
-    ensures { result ≡ rules.initial_value layouts.now globals.now t.now x.now }
+    ensures { IfOk result (λ value. value ≡ rules.initial_value layouts.now globals.now t.now x.now) }
 {
     match t {
-        CType::Int(_) => match constant(x) {
-            None => None,
-            Some(value) => Some(Value::Int(value)),
+        CType::Int(_) => match constant(alloc, x)? {
+            None => Ok(None),
+            Some(value) => Ok(Some(Value::Int(value))),
         },
         CType::Void | CType::Pointer(_) | CType::Array(_, _) | CType::Struct(_) => {
-            initial_pointer(layouts, globals, x)
+            Ok(initial_pointer(layouts, globals, x))
         }
     }
 }

@@ -36,7 +36,7 @@ fn array_size(alloc: Global, known: &Known<'_>, size: &Choice) -> Result<u32, Ty
     let a = choice(alloc, known, size)?;
     let first = a.first;
     let v = value(alloc, a)?;
-    match size_of_array(v.expr.get()) {
+    match size_of_array(alloc, v.expr.get())? {
         Some(size) => Ok(counted(size)),
         None => Err(TypeFault::BadInitialiser(first)),
     }

@@ -30,7 +30,7 @@ use Rattle.typing_declarators.proofs.LayerLaws.{SameOutcome, same_Ok, ok_is_no_e
 use Rattle.typing_rules.specs.TreesOfExpressions.{assign}
 use Rattle.typing_rules.specs.TreesOfDeclarations.{elements_after, init}
 use Rattle.typing_rules.proofs.DeclarationAlternatives.{init-Value, init-Braces}
-use Rattle.typing_initialisers.specs.Numbers.{number_leaf, has_none, is_lone}
+use Rattle.typing_shapes.specs.Numbers.{number_leaf, has_none, is_lone}
 use Rattle.typing_initialisers.specs.Initialisers.{alone, all_alone, first_of, superfluous, refused, given_cell, elements_of, is_zero_leaf, is_zero_token, is_all_zero, parts_of, members_there}
 
 -- ---- outcomes
@@ -49,7 +49,7 @@ never_ok (Err g) f h = ok_is_no_error tt g (sym h)
 
 -- ---- the rules that expressions keep by themselves are the same for each kind of cells
 
-module _ (g : Environment) (A : Type 0) (given : Place → CType → Expr → Checked A) (filled : CType → A) where
+module _ (g : Environment) (A : Type 0) (given : Expression → Place → CType → Expr → Checked A) (filled : CType → A) where
   mutual
     unfolding rules.alone rules.all_alone
 
@@ -95,37 +95,37 @@ module _ (g : Environment) (A : Type 0) (given : Place → CType → Expr → Ch
 
   -- ---- an initialiser that is an expression
 
-  abbrev of_value : CType → Checked ValueOperand → Checked (List A)
-  of_value t c = c >>= (λ v. unless (not (is_scalar t)) (fault.BadInitialiser v.first) >>= (λ u. fitted v.first t v >>= (λ y. given v.first t y >>= (λ a. Ok (a ∷ [])))))
+  abbrev of_value : CType → Expression → Checked ValueOperand → Checked (List A)
+  of_value t x c = c >>= (λ v. unless (not (is_scalar t)) (fault.BadInitialiser v.first) >>= (λ u. fitted v.first t v >>= (λ y. given x v.first t y >>= (λ a. Ok (a ∷ [])))))
 
-  value_steps : (t : CType) (x : Expression) → cells g A given filled t (Value x) ≡ of_value t (full g x)
+  value_steps : (t : CType) (x : Expression) → cells g A given filled t (Value x) ≡ of_value t x (full g x)
   unfolding cells
   value_steps t x = refl
 
   pub value_broken : (t : CType) (x : Expression) (e : TypeFault) → full g x ≡ Err e → cells g A given filled t (Value x) ≡ Err e
-  value_broken t x e h = value_steps t x ∙ ap (of_value t) h
+  value_broken t x e h = value_steps t x ∙ ap (of_value t x) h
 
   pub value_of_aggregate : (t : CType) (x : Expression) (v : ValueOperand) → full g x ≡ Ok v → is_scalar t ≡ false → cells g A given filled t (Value x) ≡ Err (fault.BadInitialiser v.first)
   unfolding unless
   value_of_aggregate t x v h s =
-      value_steps t x ∙ ap (of_value t) h
-      ∙ ap (λ b. cond (not b) (Err (fault.BadInitialiser v.first)) (Ok tt) >>= (λ u. fitted v.first t v >>= (λ y. given v.first t y >>= (λ a. Ok (a ∷ []))))) s
+      value_steps t x ∙ ap (of_value t x) h
+      ∙ ap (λ b. cond (not b) (Err (fault.BadInitialiser v.first)) (Ok tt) >>= (λ u. fitted v.first t v >>= (λ y. given x v.first t y >>= (λ a. Ok (a ∷ []))))) s
 
-  regrouped : (t : CType) (v : ValueOperand) (c : Checked Expr) → (c >>= (λ y. given v.first t y >>= (λ a. Ok (a ∷ [])))) ≡ ((c >>= given v.first t) >>= (λ a. Ok (a ∷ [])))
-  regrouped t v (Ok y) = refl
-  regrouped t v (Err e) = refl
+  regrouped : (t : CType) (x : Expression) (v : ValueOperand) (c : Checked Expr) → (c >>= (λ y. given x v.first t y >>= (λ a. Ok (a ∷ [])))) ≡ ((c >>= given x v.first t) >>= (λ a. Ok (a ∷ [])))
+  regrouped t x v (Ok y) = refl
+  regrouped t x v (Err e) = refl
 
-  value_of_scalar : (t : CType) (x : Expression) (v : ValueOperand) → full g x ≡ Ok v → is_scalar t ≡ true → cells g A given filled t (Value x) ≡ (given_cell given t v >>= (λ a. Ok (a ∷ [])))
+  value_of_scalar : (t : CType) (x : Expression) (v : ValueOperand) → full g x ≡ Ok v → is_scalar t ≡ true → cells g A given filled t (Value x) ≡ (given_cell (given x) t v >>= (λ a. Ok (a ∷ [])))
   unfolding unless given_cell
   value_of_scalar t x v h s =
-      value_steps t x ∙ ap (of_value t) h
-      ∙ ap (λ b. cond (not b) (Err (fault.BadInitialiser v.first)) (Ok tt) >>= (λ u. fitted v.first t v >>= (λ y. given v.first t y >>= (λ a. Ok (a ∷ []))))) s
-      ∙ regrouped t v (fitted v.first t v)
+      value_steps t x ∙ ap (of_value t x) h
+      ∙ ap (λ b. cond (not b) (Err (fault.BadInitialiser v.first)) (Ok tt) >>= (λ u. fitted v.first t v >>= (λ y. given x v.first t y >>= (λ a. Ok (a ∷ []))))) s
+      ∙ regrouped t x v (fitted v.first t v)
 
-  pub value_given : (t : CType) (x : Expression) (v : ValueOperand) (a : A) → full g x ≡ Ok v → is_scalar t ≡ true → given_cell given t v ≡ Ok a → cells g A given filled t (Value x) ≡ Ok (a ∷ [])
+  pub value_given : (t : CType) (x : Expression) (v : ValueOperand) (a : A) → full g x ≡ Ok v → is_scalar t ≡ true → given_cell (given x) t v ≡ Ok a → cells g A given filled t (Value x) ≡ Ok (a ∷ [])
   value_given t x v a h s e = value_of_scalar t x v h s ∙ ap (λ c. c >>= (λ a. Ok (a ∷ []))) e
 
-  pub value_not_given : (t : CType) (x : Expression) (v : ValueOperand) (e : TypeFault) → full g x ≡ Ok v → is_scalar t ≡ true → given_cell given t v ≡ Err e → cells g A given filled t (Value x) ≡ Err e
+  pub value_not_given : (t : CType) (x : Expression) (v : ValueOperand) (e : TypeFault) → full g x ≡ Ok v → is_scalar t ≡ true → given_cell (given x) t v ≡ Err e → cells g A given filled t (Value x) ≡ Err e
   value_not_given t x v e h s f = value_of_scalar t x v h s ∙ ap (λ c. c >>= (λ a. Ok (a ∷ []))) f
 
   -- ---- braces

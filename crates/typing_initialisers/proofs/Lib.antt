@@ -1,4 +1,3 @@
-pub mod Numbers
 pub mod PartForms
 pub mod Filled
 pub mod CellLaws

@@ -22,14 +22,14 @@ use Rattle.typing_rules.specs.Nodes.{first_place}
 use Rattle.typing_rules.specs.Operands.{fitted}
 use Rattle.typing_rules.specs.TreesOfDeclarations.{elements_after, init}
 use Rattle.typing_rules.specs.Initialisers as rules
-use Rattle.typing_initialisers.specs.Numbers.{number_leaf}
+use Rattle.typing_shapes.specs.Numbers.{number_leaf}
 
 -- the rules that the expressions of an initialiser keep by themselves, which no kind of cell changes
 abbrev pub alone : Environment → Initialiser → Checked (Unit {0})
-alone g x = rules.alone g (Unit {0}) (λ at t y. Ok tt) (λ t. tt) x
+alone g x = rules.alone g (Unit {0}) (λ x at t y. Ok tt) (λ t. tt) x
 
 abbrev pub all_alone : Environment → Initialisers → Checked (Unit {0})
-all_alone g xs = rules.all_alone g (Unit {0}) (λ at t y. Ok tt) (λ t. tt) xs
+all_alone g xs = rules.all_alone g (Unit {0}) (λ x at t y. Ok tt) (λ t. tt) xs
 
 abbrev pub first_of : Initialiser → Place
 first_of (Value x) = first_place x

@@ -1,4 +1,3 @@
-pub mod Numbers
 pub mod Initialisers
 pub mod Parts
 pub mod Locals

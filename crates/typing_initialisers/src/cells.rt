@@ -16,7 +16,6 @@ ghost use Rattle.typing_initialisers.specs.Parts.{parts as parts_seen};
 
 use crate::alone::{alone, superfluous};
 use crate::filling::Filling;
-use crate::number::{number, stands_alone};
 use crate::parts::{Parts, parts_of};
 use crate::zeros::{push_cell, push_elements, push_members, push_zeros};
 use c_grammar::declaration::Init;
@@ -30,6 +29,7 @@ use typing_operands::conversion::fitted;
 use typing_rules::fault::TypeFault;
 use typing_rules::operand::Value;
 use typing_scopes::known::Known;
+use typing_shapes::number::{number, stands_alone};
 
 /// Whether the type is an integer or a pointer type (C11 6.2.5, 21).
 fn is_scalar(t: &CType) -> bool
@@ -41,19 +41,20 @@ fn is_scalar(t: &CType) -> bool
     }
 }
 
-/// The cell that a value gives, brought to the type of the cell.
+/// The cell that the value of an expression gives, brought to the type of the cell.
 fn given<T: Drop, K: Filling<T>>(
     alloc: Global,
     kind: &K,
+    source: &Assign,
     t: &CType,
     v: Value,
 ) -> Result<T, TypeFault>
     requires { K.can_give kind.now }
-    ensures { Gives (steps.given_cell (K.given kind.now) t.now v) result }
+    ensures { Gives (steps.given_cell (K.given kind.now (tree_of_assign source.now)) t.now v) result }
 {
     let at = v.first;
     let x = fitted(alloc, at, t, v)?;
-    kind.give(alloc, at, t, x)
+    kind.give(alloc, source, at, t, x)
 }
 
 /// The cell of an initialiser that is an expression (C11 6.7.9, 11).
@@ -73,7 +74,7 @@ fn push_value<T: Drop, K: Filling<T>>(
     if !is_scalar(t) {
         return Err(TypeFault::BadInitialiser(v.first));
     }
-    let cell = given(alloc, kind, t, v)?;
+    let cell = given(alloc, kind, x, t, v)?;
     push_cell(cells, cell)
 }
 

@@ -12,6 +12,7 @@ use crate::cells::push_cells;
 use crate::filling::Filling;
 use crate::zeros::push_zeros;
 use c_grammar::declaration::Init;
+use c_grammar::expression::Assign;
 use c_lexer::Place;
 use sqlite_items::Items;
 use std::alloc::Global;
@@ -19,6 +20,7 @@ use step_meaning::{CType, Declared, ExprPart, Layout, Value};
 use typing_constants::address::initial_value;
 use typing_rules::fault::TypeFault;
 use typing_scopes::known::Known;
+use typing_shapes::indices::has_literal_indices;
 
 /// The cells of variables of file scope, each with the value that it starts with. Expressions name the variables so far.
 #[derive(Clone, Copy)]
@@ -31,19 +33,30 @@ impl<'t> Filling<Value> for FileCells<'t> {
     ghost use Rattle.std.specs.Prelude.{◌≡◌};
     ghost use Rattle.typing_rules.specs.declared.fault.TypeFault.TheVariants.{BadInitialiser};
     ghost use Rattle.typing_rules.specs.Checked.{kept};
-    ghost use Rattle.typing_rules.specs.ConstantExpressions.{initial_value as value_of};
+    ghost use Rattle.std.specs.Prelude.{if◌then◌else◌, None};
+    ghost use Rattle.typing_rules.specs.ConstantExpressions.{has_literal_indices as are_literal, initial_value as value_of};
     ghost use Rattle.typing_rules.specs.Initialisers as rules;
     ghost use Rattle.typing_initialisers.specs.Initialisers.{AddressesFit};
 
     ghost can_give = { λ s. AddressesFit s.layouts.now s.globals.now };
 
-    ghost given = { λ s at t x. kept (BadInitialiser at) (value_of s.layouts.now s.globals.now t x) };
+    ghost given = { λ s x at t y. kept (BadInitialiser at) (if are_literal x then value_of s.layouts.now s.globals.now t y else None) };
 
     ghost filled = { λ s t. rules.zero_value t };
 
     #[tactic(auto, unfolding(typing_rules::specs::Checked::kept))]
-    fn give(&self, _alloc: Global, at: Place, t: &CType, x: ExprPart) -> Result<Value, TypeFault> {
-        match initial_value(self.layouts, self.globals, t, x.get()) {
+    fn give(
+        &self,
+        alloc: Global,
+        source: &Assign,
+        at: Place,
+        t: &CType,
+        x: ExprPart,
+    ) -> Result<Value, TypeFault> {
+        if !has_literal_indices(source) {
+            return Err(TypeFault::BadInitialiser(at));
+        }
+        match initial_value(alloc, self.layouts, self.globals, t, x.get())? {
             Some(value) => Ok(value),
             None => Err(TypeFault::BadInitialiser(at)),
         }

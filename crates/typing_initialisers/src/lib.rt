@@ -6,6 +6,5 @@ pub mod cells;
 pub mod file;
 pub mod filling;
 pub mod locals;
-pub mod number;
 pub mod parts;
 pub mod zeros;

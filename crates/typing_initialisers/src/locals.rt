@@ -17,6 +17,7 @@ ghost use Rattle.typing_initialisers.specs.Locals.{inits};
 use crate::cells::push_cells;
 use crate::filling::Filling;
 use c_grammar::declaration::Init;
+use c_grammar::expression::Assign;
 use c_lexer::Place;
 use std::alloc::Global;
 use step_meaning::{CType, Expr, ExprPart, IntKind, NameKind, Stmt, StmtPart, StmtsPart, Variable};
@@ -54,13 +55,14 @@ impl Filling<(TypePart, ExprPart)> for LocalCells {
 
     ghost can_give = { λ s. Unit {0} };
 
-    ghost given = { λ s at t x. Ok (t, x) };
+    ghost given = { λ s x at t y. Ok (t, y) };
 
     ghost filled = { λ s t. (t, rules.zero_of t) };
 
     fn give(
         &self,
         alloc: Global,
+        _source: &Assign,
         _at: Place,
         t: &CType,
         x: ExprPart,

@@ -17,7 +17,7 @@ use Rattle.step_meaning.proofs.Ranges.{false_is_not_true, left_of_and, right_of_
 use Rattle.step_meaning.proofs.LaterLayouts.{member_types_keep}
 use Rattle.typing_rules.specs.declared.fault.TypeFault.TheVariants.{BadInitialiser}
 use Rattle.typing_rules.specs.Checked.{Checked, unless}
-use Rattle.typing_rules.specs.Syntax.{Initialiser, Value as OneValue, Braces, Initialisers, NoElement, Element}
+use Rattle.typing_rules.specs.Syntax.{Expression, Initialiser, Value as OneValue, Braces, Initialisers, NoElement, Element}
 use Rattle.typing_rules.specs.Environment.{Environment}
 use Rattle.typing_rules.specs.Operands.{fitted}
 use Rattle.typing_rules.specs.Expressions.{full}
@@ -72,8 +72,8 @@ module _ (ls : List Layout) where
   types_keep (d ∷ ds) e = (left_of_and _ _ e, types_keep ds (right_of_and _ _ e))
 
 -- in an environment that agrees with the program, where expressions give parts that fit, and so do cells that are filled up
-module _ (q : Core) (s : Setting) (g : Environment) (agrees : Agrees q s g) (rules : are_layouts g.layouts ≡ true) (A : Type 0) (given : Place → CType → Expr → Checked A) (filled : CType → A) (P : CType → A → Type 0)
-    (given_fits : (at : Place) (t : CType) (x : Expr) → is_scalar t ≡ true → keeps_rules g.layouts t ≡ true → IsTaken q s g.layouts t x → WhereOk (P t) (given at t x)) (filled_fits : (t : CType) → is_scalar t ≡ true → P t (filled t)) where
+module _ (q : Core) (s : Setting) (g : Environment) (agrees : Agrees q s g) (rules : are_layouts g.layouts ≡ true) (A : Type 0) (given : Expression → Place → CType → Expr → Checked A) (filled : CType → A) (P : CType → A → Type 0)
+    (given_fits : (x : Expression) (at : Place) (t : CType) (y : Expr) → is_scalar t ≡ true → keeps_rules g.layouts t ≡ true → IsTaken q s g.layouts t y → WhereOk (P t) (given x at t y)) (filled_fits : (t : CType) → is_scalar t ≡ true → P t (filled t)) where
   abbrev pub Filled : CType → List A → Type 0
   Filled t xs = AreCells P (object_cells g.layouts t) xs
 
@@ -118,7 +118,7 @@ module _ (q : Core) (s : Setting) (g : Environment) (agrees : Agrees q s g) (rul
         then_holds (ValueFits q s (length g.layouts)) (Filled t) (full g x) _ (full_fits q s g agrees x c) (λ v h.
         then_holds (λ (u : Unit {0}). is_scalar t ≡ true) (Filled t) (unless (not (is_scalar t)) (BadInitialiser v.first)) _ (unless_holds (is_scalar t ≡ true) (not (is_scalar t)) _ (not_false (is_scalar t))) (λ u i.
         then_holds (IsTaken q s g.layouts t) (Filled t) (fitted v.first t v) _ (fitted_fits q s g.layouts v.first t v h) (λ y j.
-        then_holds (P t) (Filled t) (given v.first t y) _ (given_fits v.first t y i k j) (λ a l.
+        then_holds (P t) (Filled t) (given x v.first t y) _ (given_fits x v.first t y i k j) (λ a l.
         subst (λ ts. AreCells P ts (a ∷ [])) (sym (scalar_cells g.layouts t i)) (l, tt)))))
     cells_fit (Braces b xs) c t k =
         if_holds (WhereOk (Filled t)) (is_scalar t) _ _ (λ i. then_known (Filled t) (all_alone g A given filled xs) _ (λ u e. tt)) (λ i.

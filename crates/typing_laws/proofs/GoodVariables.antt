@@ -12,9 +12,8 @@ use Rattle.step_meaning.proofs.LaterLayouts.{same_cells}
 use Rattle.typing_rules.specs.Checked.{Checked, kept}
 use Rattle.typing_rules.specs.Syntax.{Declared, Initialiser}
 use Rattle.typing_rules.specs.Environment.{place_of, is_reserved}
-use Rattle.typing_rules.specs.ConstantExpressions.{initial_value}
 use Rattle.typing_rules.specs.Declarations.{layers, layered, count_of, is_complete, is_complete_in}
-use Rattle.typing_rules.specs.Initialisers.{zero_value, initial_values, uninitialised}
+use Rattle.typing_rules.specs.Initialisers.{zero_value, given_value, initial_values, uninitialised}
 use Rattle.typing_rules.specs.FileScope.{Program, seen_now, bytes, is_known, is_main_name, first_values, with_variable, variable, variables}
 use Rattle.typing_rules.specs.declared.fault.TypeFault.TheVariants.{BadInitialiser}
 use Rattle.typing_rules.proofs.ObjectTypes.{has_elements}
@@ -80,8 +79,8 @@ module _ (p : Program) (right : IsRight p) (name : List ℕ) (t : CType) (keep :
     values_fit : (x : Initialiser) → InitialiserParsed p.text x → WhereOk (AreInitialValues q (length p.globals) (object_cells q.layouts t)) (initial_values (seen_now after) after.globals t x)
     values_fit x c =
         weaker (AreCells (λ t v. IsInitialValue q (length p.globals) t v) (object_cells p.layouts t)) (AreInitialValues q (length p.globals) (object_cells q.layouts t)) (initial_values (seen_now after) after.globals t x) in_order
-        (cells_fit q (file_setting q) (seen_now after) (file_agrees q (file_setting q) after variable_right done refl refl) right.structs Value (λ at t x. kept (BadInitialiser at) (initial_value p.layouts after.globals t x)) zero_value (λ t v. IsInitialValue q (length p.globals) t v)
-        (λ at t y i k h. given_initial q (file_setting q) after.globals done.more_globals p.layouts done.more_layouts right.structs variable_right.globals done.layouts done.globals refl (length p.globals) last at t y i h) zero_fits x c t keep)
+        (cells_fit q (file_setting q) (seen_now after) (file_agrees q (file_setting q) after variable_right done refl refl) right.structs Value (λ x at t y. kept (BadInitialiser at) (given_value (seen_now after) after.globals x t y)) zero_value (λ t v. IsInitialValue q (length p.globals) t v)
+        (λ x at t y i k h. given_initial q (file_setting q) after.globals done.more_globals p.layouts done.more_layouts right.structs variable_right.globals done.layouts done.globals refl (length p.globals) last x at t y i h) zero_fits x c t keep)
 
   each_core : (c : Checked (List Value)) → ((q : Core) → Completes q after → WhereOk (AreInitialValues q (length p.globals) (object_cells q.layouts t)) c) → WhereOk StartsWith c
   each_core (Ok vs) h = h

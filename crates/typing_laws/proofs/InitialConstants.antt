@@ -32,7 +32,8 @@ use Rattle.step_meaning.proofs.TypedMemory.{WhereSome, get_fits}
 use Rattle.core_types.proofs.MemberLaws.{has_cell}
 use Rattle.typing_rules.specs.declared.fault.TypeFault.TheVariants.{BadInitialiser}
 use Rattle.typing_rules.specs.Checked.{kept}
-use Rattle.typing_rules.specs.ConstantExpressions.{Part, part_of, is_variable, pointer_at, address_of, initial_value, constant}
+use Rattle.typing_rules.specs.Syntax.{Expression}
+use Rattle.typing_rules.specs.ConstantExpressions.{Part, part_of, is_variable, pointer_at, address_of, initial_value, has_literal_indices, constant}
 use Rattle.typing_rules.specs.Initialisers.{zero_value}
 use Rattle.typing_laws.specs.SmallTypes.{WhereOk}
 use Rattle.typing_laws.proofs.CheckedValues.{kept_holds, if_holds, some_then, some_mapped, where_some}
@@ -177,14 +178,21 @@ module _ (q : Core) (s : Setting) (globals later : List Named) (ls more : List L
       subst (λ t. WhereSome (Initial (pointer_to t)) (address_of ls globals x u)) (pointee_same t u both.1) (address_fits x u (right_of_and (not (is_register x)) (is_addressed_at u (type_of_place q s x)) both.0))
   pointer_initial t y h = tt
 
-  pub given_initial : (at : Place) (t : CType) (y : Expr) → is_scalar t ≡ true → IsTaken q s ls t y → WhereOk (Initial t) (kept (BadInitialiser at) (initial_value ls globals t y))
+  value_initial : (at : Place) (t : CType) (y : Expr) → is_scalar t ≡ true → IsTaken q s ls t y → WhereOk (Initial t) (kept (BadInitialiser at) (initial_value ls globals t y))
   unfolding initial_value
-  given_initial at (type.Int k) y i h =
+  value_initial at (type.Int k) y i h =
       kept_holds (Initial (type.Int k)) _ (option_map value.Int (constant y)) (some_mapped (λ z. is_in_range k z ≡ true) (Initial (type.Int k)) value.Int (constant y) (constant_in_range q s k y (taken_integer k y (type_of q s y) h)) (λ z r. r))
-  given_initial at (type.Pointer' b (more_of-CType t end_of-CType)) y i h = kept_holds (Initial (pointer_to t)) _ (initial_value ls globals (pointer_to t) y) (pointer_initial t y h)
-  given_initial at type.Void y i h = false_is_not_true i
-  given_initial at (type.Array' b t n) y i h = false_is_not_true i
-  given_initial at (type.Struct n) y i h = false_is_not_true i
+  value_initial at (type.Pointer' b (more_of-CType t end_of-CType)) y i h = kept_holds (Initial (pointer_to t)) _ (initial_value ls globals (pointer_to t) y) (pointer_initial t y h)
+  value_initial at type.Void y i h = false_is_not_true i
+  value_initial at (type.Array' b t n) y i h = false_is_not_true i
+  value_initial at (type.Struct n) y i h = false_is_not_true i
+
+  no_value : (at : Place) (t : CType) → WhereOk (Initial t) (kept (BadInitialiser at) None)
+  unfolding kept
+  no_value at t = tt
+
+  pub given_initial : (x : Expression) (at : Place) (t : CType) (y : Expr) → is_scalar t ≡ true → IsTaken q s ls t y → WhereOk (Initial t) (kept (BadInitialiser at) (if has_literal_indices x then initial_value ls globals t y else None))
+  given_initial x at t y i h = if_holds (λ o. WhereOk (Initial t) (kept (BadInitialiser at) o)) (has_literal_indices x) (initial_value ls globals t y) None (λ e. value_initial at t y i h) (λ e. no_value at t)
 
   pub zero_initial : (t : CType) → is_scalar t ≡ true → Initial t (zero_value t)
   zero_initial (type.Int k) i = zero_in_range k

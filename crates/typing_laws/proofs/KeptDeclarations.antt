@@ -141,8 +141,8 @@ module _ (q : Core) (fn : CoreFunction) (noted : Setting) (p : Program) (right :
   local_cells_fit : (f : Frame) → FrameRight p fn f → InView p fn f → (x : Initialiser) → InitialiserParsed p.text x → (t : CType) → keeps_rules p.layouts t ≡ true
       → WhereOk (CellsFit t) (local_cells (seen_in_body (seen_now p) fn.result f) t x)
   local_cells_fit f h v x c t k =
-      cells_fit q own (seen_in_body (seen_now p) fn.result f) (agrees_in f h v) right.structs Cell (λ at t x. Ok (t, x)) (λ t. (t, zero_of t)) CellFits
-      (λ at t y i j l. (refl, l)) (λ t i. (refl, zero_taken t i)) x c t k
+      cells_fit q own (seen_in_body (seen_now p) fn.result f) (agrees_in f h v) right.structs Cell (λ x at t y. Ok (t, y)) (λ t. (t, zero_of t)) CellFits
+      (λ x at t y i j l. (refl, l)) (λ t i. (refl, zero_taken t i)) x c t k
 
   -- the statements of the cells from number o on of the local with number n
   inits_fit : (loop : Bool) (n : ℕ) (t : CType) → IsNoParameter n → IsLocalOf t n → (before types : List CType) (cs : List Cell) → object_cells q.layouts t ≡ before ++ types → AreCells CellFits types cs

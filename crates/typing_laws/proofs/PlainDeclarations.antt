@@ -21,7 +21,7 @@ use Rattle.step_meaning.specs.Types.{object_cells}
 use Rattle.step_meaning.specs.Sources.{is_bare, calls_are_short, full_nesting}
 use Rattle.typing_rules.specs.declared.fault.TypeFault.TheVariants.{BadInitialiser}
 use Rattle.typing_rules.specs.Checked.{Checked, unless}
-use Rattle.typing_rules.specs.Syntax.{Modifier, PointerTo, ArrayUnsized, ArrayOf, Initialiser, Initialisers, Value as OneValue, Braces, NoElement, Element, Declared, Local}
+use Rattle.typing_rules.specs.Syntax.{Expression, Modifier, PointerTo, ArrayUnsized, ArrayOf, Initialiser, Initialisers, Value as OneValue, Braces, NoElement, Element, Declared, Local}
 use Rattle.typing_rules.specs.Environment.{Environment, Scope, specified}
 use Rattle.typing_rules.specs.Operands.{fitted}
 use Rattle.typing_rules.specs.Expressions.{full}
@@ -110,8 +110,8 @@ module _ (m : ℕ) (positive : 1 ≤ m) where
   zeros_of (t ∷ ts) = (zero_plain t, zeros_of ts)
 
   module _ (g : Environment) (s : EnvironmentShallow g) (source : g.mode ≡ mode.Source) where
-    abbrev given : Place → CType → Expr → Checked Cell
-    given at t x = Ok (t, x)
+    abbrev given : Expression → Place → CType → Expr → Checked Cell
+    given x at t y = Ok (t, y)
 
     abbrev filled : CType → Cell
     filled t = (t, zero_of t)

@@ -77,7 +77,7 @@ shapes_rows =
     row (codes "int *p; int main(void) { int a[2] = {p}; return 0; }") ((Variables (int 0 3) ((declared (name 5 6) (PointerTo ∷ []) None) ∷ [])) ∷ (Function (spelled (int 8 11) 0) (name 12 16) [] (Some (Next (Declare (local (int 25 28) ((declared (name 29 30) ((ArrayOf (Number (number 31 32))) ∷ []) (Some (Braces (mark w.LeftBrace 36 37) (Element (Value (Name (name 37 38))) NoElement)))) ∷ []))) (Next (Return (word w.Return 41 47) (Some (Number (number 48 49)))) End)))) ∷ []) 123 38 ∷ []
 
 pub shapes : outcomes shapes_rows ≡ refusals shapes_rows
-unfolding checked_rules.kept checked_rules.unless checked_rules.none_of environment_rules.found_in environment_rules.found environment_rules.specified environment_rules.with_stars environment_rules.spelled_type nodes_rules.first_place judgements_rules.shape judgements_rules.on_pointers judgements_rules.arithmetic judgements_rules.relation judgements_rules.operation judgements_rules.conversion judgements_rules.selection judgements_rules.cast_conversion judgements_rules.compound_operation operands_rules.loaded operands_rules.value operands_rules.condition operands_rules.brought operands_rules.fitted operators_rules.unit operators_rules.computed operators_rules.combined operators_rules.selected operators_rules.choice_of operators_rules.cast_by operators_rules.cast operators_rules.promoting operators_rules.negation operators_rules.address operators_rules.dereferenced assignments_rules.assigned assignments_rules.updated assignments_rules.compound assignments_rules.stepped subobjects_rules.base_of subobjects_rules.indexed subobjects_rules.dot subobjects_rules.arrow allocation_rules.objects allocation_rules.product allocation_rules.allocated allocation_rules.freed expressions_rules.full expressions_rules.operand expressions_rules.arguments expressions_rules.only_value expressions_rules.only_request expressions_rules.requested expressions_rules.measured constant_expressions_rules.is_constant constant_expressions_rules.value_of constant_expressions_rules.constant constant_expressions_rules.size_of_array constant_expressions_rules.part_of constant_expressions_rules.initial_value declarations_rules.size declarations_rules.layers declarations_rules.layered declarations_rules.element_number declarations_rules.is_complete declarations_rules.is_within_limit initialisers_rules.parts initialisers_rules.zeros initialisers_rules.alone initialisers_rules.all_alone initialisers_rules.cells initialisers_rules.elements statements_rules.in_scope statements_rules.init_statements statements_rules.declare_one statements_rules.declare_all statements_rules.declare statements_rules.statement statements_rules.statements weights_rules.declared_weight weights_rules.item_weight weights_rules.initialiser_nodes weights_rules.elements_nodes weights_rules.continues weights_rules.all_continues weights_rules.statement_weight weights_rules.statements_weight file_scope_rules.file_scope file_scope_rules.variable file_scope_rules.variables structs_rules.member structs_rules.member_list structs_rules.all_members structs_rules.structure functions_rules.parameter functions_rules.parameters functions_rules.declarable_function functions_rules.replaced functions_rules.defined_as functions_rules.function programs_rules.item programs_rules.items programs_rules.whole programs_rules.elaborated programs_rules.elaboration number_rules.radix_of number_rules.value_of number_rules.number_value number_rules.constant_of number_rules.constant_with number_rules.first_holding number_rules.constant_types number_rules.number_of number_rules.suffix_of lexeme_rules.character_value type_rows.shape-the_row-CType-0 type_rows.hidden-the_row-CType-0 expression_rows.shape-the_row-Expr-0 expression_rows.hidden-the_row-Expr-0 expression_rows.shape-the_row-Expr-1 expression_rows.hidden-the_row-Expr-1 expression_rows.shape-the_row-Place_-2 expression_rows.hidden-the_row-Place_-2 statement_rows.shape-the_row-Stmt-0 statement_rows.hidden-the_row-Stmt-0 statement_rows.shape-the_row-Stmt-1 statement_rows.hidden-the_row-Stmt-1 hidden
+unfolding checked_rules.kept checked_rules.unless checked_rules.none_of environment_rules.found_in environment_rules.found environment_rules.specified environment_rules.with_stars environment_rules.spelled_type nodes_rules.first_place judgements_rules.shape judgements_rules.on_pointers judgements_rules.arithmetic judgements_rules.relation judgements_rules.operation judgements_rules.conversion judgements_rules.selection judgements_rules.cast_conversion judgements_rules.compound_operation operands_rules.loaded operands_rules.value operands_rules.condition operands_rules.brought operands_rules.fitted operators_rules.unit operators_rules.computed operators_rules.combined operators_rules.selected operators_rules.choice_of operators_rules.cast_by operators_rules.cast operators_rules.promoting operators_rules.negation operators_rules.address operators_rules.dereferenced assignments_rules.assigned assignments_rules.updated assignments_rules.compound assignments_rules.stepped subobjects_rules.base_of subobjects_rules.indexed subobjects_rules.dot subobjects_rules.arrow allocation_rules.objects allocation_rules.product allocation_rules.allocated allocation_rules.freed expressions_rules.full expressions_rules.operand expressions_rules.arguments expressions_rules.only_value expressions_rules.only_request expressions_rules.requested expressions_rules.measured constant_expressions_rules.is_constant constant_expressions_rules.value_of constant_expressions_rules.constant constant_expressions_rules.size_of_array constant_expressions_rules.part_of constant_expressions_rules.is_literal constant_expressions_rules.has_literal_indices constant_expressions_rules.initial_value declarations_rules.size declarations_rules.layers declarations_rules.layered declarations_rules.element_number declarations_rules.is_complete declarations_rules.is_within_limit initialisers_rules.parts initialisers_rules.zeros initialisers_rules.alone initialisers_rules.all_alone initialisers_rules.cells initialisers_rules.elements statements_rules.in_scope statements_rules.init_statements statements_rules.declare_one statements_rules.declare_all statements_rules.declare statements_rules.statement statements_rules.statements weights_rules.declared_weight weights_rules.item_weight weights_rules.initialiser_nodes weights_rules.elements_nodes weights_rules.continues weights_rules.all_continues weights_rules.statement_weight weights_rules.statements_weight file_scope_rules.file_scope file_scope_rules.variable file_scope_rules.variables structs_rules.member structs_rules.member_list structs_rules.all_members structs_rules.structure functions_rules.parameter functions_rules.parameters functions_rules.declarable_function functions_rules.replaced functions_rules.defined_as functions_rules.function programs_rules.item programs_rules.items programs_rules.whole programs_rules.elaborated programs_rules.elaboration number_rules.radix_of number_rules.value_of number_rules.number_value number_rules.constant_of number_rules.constant_with number_rules.first_holding number_rules.constant_types number_rules.number_of number_rules.suffix_of lexeme_rules.character_value type_rows.shape-the_row-CType-0 type_rows.hidden-the_row-CType-0 expression_rows.shape-the_row-Expr-0 expression_rows.hidden-the_row-Expr-0 expression_rows.shape-the_row-Expr-1 expression_rows.hidden-the_row-Expr-1 expression_rows.shape-the_row-Place_-2 expression_rows.hidden-the_row-Place_-2 statement_rows.shape-the_row-Stmt-0 statement_rows.hidden-the_row-Stmt-0 statement_rows.shape-the_row-Stmt-1 statement_rows.hidden-the_row-Stmt-1 hidden
 shapes = refl
 
 -- what a variable of file scope starts with
@@ -107,6 +107,14 @@ constants_rows =
     row (codes "static int n; int b[3]; struct s { int m; int k[2]; }; struct s v; int *p = b + 1; int main(void) { return 0; }") ((Variables (int 7 10) ((declared (name 11 12) [] None) ∷ [])) ∷ (Variables (int 14 17) ((declared (name 18 19) ((ArrayOf (Number (number 20 21))) ∷ []) None) ∷ [])) ∷ (Struct (name 31 32) ((members (int 35 38) ((declarator (name 39 40) []) ∷ [])) ∷ (members (int 42 45) ((declarator (name 46 47) ((ArrayOf (Number (number 48 49))) ∷ [])) ∷ [])) ∷ []) []) ∷ (Variables (struct 62 63) ((declared (name 64 65) [] None) ∷ [])) ∷ (Variables (int 67 70) ((declared (name 72 73) (PointerTo ∷ []) (Some (Value (Binary (Name (name 76 77)) (mark w.Plus 78 79) (Number (number 80 81)))))) ∷ [])) ∷ (Function (spelled (int 83 86) 0) (name 87 91) [] (Some (Next (Return (word w.Return 100 106) (Some (Number (number 107 108)))) End))) ∷ []) 132 77 ∷
     -- static int n; int b[3]; struct s { int m; int k[2]; }; struct s v; int *p = &b[n]; int main(void) { return 0; }
     row (codes "static int n; int b[3]; struct s { int m; int k[2]; }; struct s v; int *p = &b[n]; int main(void) { return 0; }") ((Variables (int 7 10) ((declared (name 11 12) [] None) ∷ [])) ∷ (Variables (int 14 17) ((declared (name 18 19) ((ArrayOf (Number (number 20 21))) ∷ []) None) ∷ [])) ∷ (Struct (name 31 32) ((members (int 35 38) ((declarator (name 39 40) []) ∷ [])) ∷ (members (int 42 45) ((declarator (name 46 47) ((ArrayOf (Number (number 48 49))) ∷ [])) ∷ [])) ∷ []) []) ∷ (Variables (struct 62 63) ((declared (name 64 65) [] None) ∷ [])) ∷ (Variables (int 67 70) ((declared (name 72 73) (PointerTo ∷ []) (Some (Value (Prefix (mark w.Ampersand 76 77) (Index (Name (name 77 78)) (mark w.LeftBracket 78 79) (Name (name 79 80))))))) ∷ [])) ∷ (Function (spelled (int 83 86) 0) (name 87 91) [] (Some (Next (Return (word w.Return 100 106) (Some (Number (number 107 108)))) End))) ∷ []) 132 77 ∷
+    -- int b[3]; int *p = &b[(1)]; int main(void) { return 0; }
+    row (codes "int b[3]; int *p = &b[(1)]; int main(void) { return 0; }") ((Variables (int 0 3) ((declared (name 4 5) ((ArrayOf (Number (number 6 7))) ∷ []) None) ∷ [])) ∷ (Variables (int 10 13) ((declared (name 15 16) (PointerTo ∷ []) (Some (Value (Prefix (mark w.Ampersand 19 20) (Index (Name (name 20 21)) (mark w.LeftBracket 21 22) (Paren (mark w.LeftParen 22 23) (Number (number 23 24)))))))) ∷ [])) ∷ (Function (spelled (int 28 31) 0) (name 32 36) [] (Some (Next (Return (word w.Return 45 51) (Some (Number (number 52 53)))) End))) ∷ []) 0 0 ∷
+    -- int b[3]; int *p = &b[+1]; int main(void) { return 0; }
+    row (codes "int b[3]; int *p = &b[+1]; int main(void) { return 0; }") ((Variables (int 0 3) ((declared (name 4 5) ((ArrayOf (Number (number 6 7))) ∷ []) None) ∷ [])) ∷ (Variables (int 10 13) ((declared (name 15 16) (PointerTo ∷ []) (Some (Value (Prefix (mark w.Ampersand 19 20) (Index (Name (name 20 21)) (mark w.LeftBracket 21 22) (Prefix (mark w.Plus 22 23) (Number (number 23 24)))))))) ∷ [])) ∷ (Function (spelled (int 27 30) 0) (name 31 35) [] (Some (Next (Return (word w.Return 44 50) (Some (Number (number 51 52)))) End))) ∷ []) 132 20 ∷
+    -- int b[3]; int *p = &b[(int) 1]; int main(void) { return 0; }
+    row (codes "int b[3]; int *p = &b[(int) 1]; int main(void) { return 0; }") ((Variables (int 0 3) ((declared (name 4 5) ((ArrayOf (Number (number 6 7))) ∷ []) None) ∷ [])) ∷ (Variables (int 10 13) ((declared (name 15 16) (PointerTo ∷ []) (Some (Value (Prefix (mark w.Ampersand 19 20) (Index (Name (name 20 21)) (mark w.LeftBracket 21 22) (Cast (mark w.LeftParen 22 23) (spelled (int 23 26) 0) (Number (number 28 29)))))))) ∷ [])) ∷ (Function (spelled (int 32 35) 0) (name 36 40) [] (Some (Next (Return (word w.Return 49 55) (Some (Number (number 56 57)))) End))) ∷ []) 132 20 ∷
+    -- int b[3]; int *p = &(b[+1]); int main(void) { return 0; }
+    row (codes "int b[3]; int *p = &(b[+1]); int main(void) { return 0; }") ((Variables (int 0 3) ((declared (name 4 5) ((ArrayOf (Number (number 6 7))) ∷ []) None) ∷ [])) ∷ (Variables (int 10 13) ((declared (name 15 16) (PointerTo ∷ []) (Some (Value (Prefix (mark w.Ampersand 19 20) (Paren (mark w.LeftParen 20 21) (Index (Name (name 21 22)) (mark w.LeftBracket 22 23) (Prefix (mark w.Plus 23 24) (Number (number 24 25))))))))) ∷ [])) ∷ (Function (spelled (int 29 32) 0) (name 33 37) [] (Some (Next (Return (word w.Return 46 52) (Some (Number (number 53 54)))) End))) ∷ []) 132 20 ∷
     -- static int n; int b[3]; struct s { int m; int k[2]; }; struct s v; int *p = &b[1 - 1]; int main(void) { return 0; }
     row (codes "static int n; int b[3]; struct s { int m; int k[2]; }; struct s v; int *p = &b[1 - 1]; int main(void) { return 0; }") ((Variables (int 7 10) ((declared (name 11 12) [] None) ∷ [])) ∷ (Variables (int 14 17) ((declared (name 18 19) ((ArrayOf (Number (number 20 21))) ∷ []) None) ∷ [])) ∷ (Struct (name 31 32) ((members (int 35 38) ((declarator (name 39 40) []) ∷ [])) ∷ (members (int 42 45) ((declarator (name 46 47) ((ArrayOf (Number (number 48 49))) ∷ [])) ∷ [])) ∷ []) []) ∷ (Variables (struct 62 63) ((declared (name 64 65) [] None) ∷ [])) ∷ (Variables (int 67 70) ((declared (name 72 73) (PointerTo ∷ []) (Some (Value (Prefix (mark w.Ampersand 76 77) (Index (Name (name 77 78)) (mark w.LeftBracket 78 79) (Binary (Number (number 79 80)) (mark w.Minus 81 82) (Number (number 83 84)))))))) ∷ [])) ∷ (Function (spelled (int 87 90) 0) (name 91 95) [] (Some (Next (Return (word w.Return 104 110) (Some (Number (number 111 112)))) End))) ∷ []) 132 77 ∷
     -- static int n; int b[3]; struct s { int m; int k[2]; }; struct s v; int *p = 1; int main(void) { return 0; }
@@ -127,5 +135,5 @@ constants_rows =
     row (codes "struct s { struct s *next; int m; }; struct s v = {&v, 1}; int main(void) { return 0; }") ((Struct (name 7 8) ((members (struct 18 19) ((declarator (name 21 25) (PointerTo ∷ [])) ∷ [])) ∷ (members (int 27 30) ((declarator (name 31 32) []) ∷ [])) ∷ []) []) ∷ (Variables (struct 44 45) ((declared (name 46 47) [] (Some (Braces (mark w.LeftBrace 50 51) (Element (Value (Prefix (mark w.Ampersand 51 52) (Name (name 52 53)))) (Element (Value (Number (number 55 56))) NoElement))))) ∷ [])) ∷ (Function (spelled (int 59 62) 0) (name 63 67) [] (Some (Next (Return (word w.Return 76 82) (Some (Number (number 83 84)))) End))) ∷ []) 0 0 ∷ []
 
 pub constants : outcomes constants_rows ≡ refusals constants_rows
-unfolding checked_rules.kept checked_rules.unless checked_rules.none_of environment_rules.found_in environment_rules.found environment_rules.specified environment_rules.with_stars environment_rules.spelled_type nodes_rules.first_place judgements_rules.shape judgements_rules.on_pointers judgements_rules.arithmetic judgements_rules.relation judgements_rules.operation judgements_rules.conversion judgements_rules.selection judgements_rules.cast_conversion judgements_rules.compound_operation operands_rules.loaded operands_rules.value operands_rules.condition operands_rules.brought operands_rules.fitted operators_rules.unit operators_rules.computed operators_rules.combined operators_rules.selected operators_rules.choice_of operators_rules.cast_by operators_rules.cast operators_rules.promoting operators_rules.negation operators_rules.address operators_rules.dereferenced assignments_rules.assigned assignments_rules.updated assignments_rules.compound assignments_rules.stepped subobjects_rules.base_of subobjects_rules.indexed subobjects_rules.dot subobjects_rules.arrow allocation_rules.objects allocation_rules.product allocation_rules.allocated allocation_rules.freed expressions_rules.full expressions_rules.operand expressions_rules.arguments expressions_rules.only_value expressions_rules.only_request expressions_rules.requested expressions_rules.measured constant_expressions_rules.is_constant constant_expressions_rules.value_of constant_expressions_rules.constant constant_expressions_rules.size_of_array constant_expressions_rules.part_of constant_expressions_rules.initial_value declarations_rules.size declarations_rules.layers declarations_rules.layered declarations_rules.element_number declarations_rules.is_complete declarations_rules.is_within_limit initialisers_rules.parts initialisers_rules.zeros initialisers_rules.alone initialisers_rules.all_alone initialisers_rules.cells initialisers_rules.elements statements_rules.in_scope statements_rules.init_statements statements_rules.declare_one statements_rules.declare_all statements_rules.declare statements_rules.statement statements_rules.statements weights_rules.declared_weight weights_rules.item_weight weights_rules.initialiser_nodes weights_rules.elements_nodes weights_rules.continues weights_rules.all_continues weights_rules.statement_weight weights_rules.statements_weight file_scope_rules.file_scope file_scope_rules.variable file_scope_rules.variables structs_rules.member structs_rules.member_list structs_rules.all_members structs_rules.structure functions_rules.parameter functions_rules.parameters functions_rules.declarable_function functions_rules.replaced functions_rules.defined_as functions_rules.function programs_rules.item programs_rules.items programs_rules.whole programs_rules.elaborated programs_rules.elaboration number_rules.radix_of number_rules.value_of number_rules.number_value number_rules.constant_of number_rules.constant_with number_rules.first_holding number_rules.constant_types number_rules.number_of number_rules.suffix_of lexeme_rules.character_value type_rows.shape-the_row-CType-0 type_rows.hidden-the_row-CType-0 expression_rows.shape-the_row-Expr-0 expression_rows.hidden-the_row-Expr-0 expression_rows.shape-the_row-Expr-1 expression_rows.hidden-the_row-Expr-1 expression_rows.shape-the_row-Place_-2 expression_rows.hidden-the_row-Place_-2 statement_rows.shape-the_row-Stmt-0 statement_rows.hidden-the_row-Stmt-0 statement_rows.shape-the_row-Stmt-1 statement_rows.hidden-the_row-Stmt-1 hidden
+unfolding checked_rules.kept checked_rules.unless checked_rules.none_of environment_rules.found_in environment_rules.found environment_rules.specified environment_rules.with_stars environment_rules.spelled_type nodes_rules.first_place judgements_rules.shape judgements_rules.on_pointers judgements_rules.arithmetic judgements_rules.relation judgements_rules.operation judgements_rules.conversion judgements_rules.selection judgements_rules.cast_conversion judgements_rules.compound_operation operands_rules.loaded operands_rules.value operands_rules.condition operands_rules.brought operands_rules.fitted operators_rules.unit operators_rules.computed operators_rules.combined operators_rules.selected operators_rules.choice_of operators_rules.cast_by operators_rules.cast operators_rules.promoting operators_rules.negation operators_rules.address operators_rules.dereferenced assignments_rules.assigned assignments_rules.updated assignments_rules.compound assignments_rules.stepped subobjects_rules.base_of subobjects_rules.indexed subobjects_rules.dot subobjects_rules.arrow allocation_rules.objects allocation_rules.product allocation_rules.allocated allocation_rules.freed expressions_rules.full expressions_rules.operand expressions_rules.arguments expressions_rules.only_value expressions_rules.only_request expressions_rules.requested expressions_rules.measured constant_expressions_rules.is_constant constant_expressions_rules.value_of constant_expressions_rules.constant constant_expressions_rules.size_of_array constant_expressions_rules.part_of constant_expressions_rules.is_literal constant_expressions_rules.has_literal_indices constant_expressions_rules.initial_value declarations_rules.size declarations_rules.layers declarations_rules.layered declarations_rules.element_number declarations_rules.is_complete declarations_rules.is_within_limit initialisers_rules.parts initialisers_rules.zeros initialisers_rules.alone initialisers_rules.all_alone initialisers_rules.cells initialisers_rules.elements statements_rules.in_scope statements_rules.init_statements statements_rules.declare_one statements_rules.declare_all statements_rules.declare statements_rules.statement statements_rules.statements weights_rules.declared_weight weights_rules.item_weight weights_rules.initialiser_nodes weights_rules.elements_nodes weights_rules.continues weights_rules.all_continues weights_rules.statement_weight weights_rules.statements_weight file_scope_rules.file_scope file_scope_rules.variable file_scope_rules.variables structs_rules.member structs_rules.member_list structs_rules.all_members structs_rules.structure functions_rules.parameter functions_rules.parameters functions_rules.declarable_function functions_rules.replaced functions_rules.defined_as functions_rules.function programs_rules.item programs_rules.items programs_rules.whole programs_rules.elaborated programs_rules.elaboration number_rules.radix_of number_rules.value_of number_rules.number_value number_rules.constant_of number_rules.constant_with number_rules.first_holding number_rules.constant_types number_rules.number_of number_rules.suffix_of lexeme_rules.character_value type_rows.shape-the_row-CType-0 type_rows.hidden-the_row-CType-0 expression_rows.shape-the_row-Expr-0 expression_rows.hidden-the_row-Expr-0 expression_rows.shape-the_row-Expr-1 expression_rows.hidden-the_row-Expr-1 expression_rows.shape-the_row-Place_-2 expression_rows.hidden-the_row-Place_-2 statement_rows.shape-the_row-Stmt-0 statement_rows.hidden-the_row-Stmt-0 statement_rows.shape-the_row-Stmt-1 statement_rows.hidden-the_row-Stmt-1 hidden
 constants = refl

@@ -1,5 +1,5 @@
 -- Constant expressions (C11 6.6): literals, operators on integers, `?:` and integer casts; what isn't evaluated may make a fault. And address constants (C11 6.6, 9).
--- They are told by their cores, in which all conversions are written out.
+-- They are told by their cores, in which all conversions are written out; only whether an index is a literal is asked of the text.
 use Rattle.std.specs.Prelude.{ℕ, suc, ◌+◌, ◌*◌, ℤ, pos, Bool, true, false, ◌&&◌, nat_lt, if◌then◌else◌, List, slice_get, Option, Some, None, option_and_then, option_map, Result, Ok, Err}
 use Rattle.step_meaning.specs.declared.value.RunFault.{RunFault}
 use Rattle.step_meaning.specs.declared.value.CType.{CType}
@@ -17,6 +17,7 @@ use Rattle.step_meaning.specs.Types.{same_type, where_true}
 use Rattle.step_meaning.specs.TypeRules.{member_type, element_type}
 use Rattle.step_meaning.specs.Names.{same_kind}
 use Rattle.step_meaning.specs.InitialValues.{element_count}
+use Rattle.typing_rules.specs.Syntax.{Expression, Number, Character, Paren, Index, Member, Prefix}
 
 -- ---- integers
 
@@ -69,6 +70,21 @@ size_of_array x = positive (constant x)
 
 -- ---- addresses
 
+-- a number or a character, in any parentheses
+unfoldable pub is_literal : Expression → Bool
+is_literal (Number t) = true
+is_literal (Character t) = true
+is_literal (Paren t x) = is_literal x
+is_literal _ = false
+
+-- each index of the place that the expression names, or takes the address of, is a literal
+unfoldable pub has_literal_indices : Expression → Bool
+has_literal_indices (Paren t x) = has_literal_indices x
+has_literal_indices (Prefix t x) = has_literal_indices x
+has_literal_indices (Index x t i) = has_literal_indices x && is_literal i
+has_literal_indices (Member x t m) = has_literal_indices x
+has_literal_indices _ = true
+
 -- a part of a variable of file scope: the variable's number, the offset, the part's type
 pub record Part : Type 0 where
   pub index : ℕ
@@ -84,7 +100,7 @@ module _ (layouts : List Layout) (globals : List Declared) where
       then option_map (λ t. record { index = p.index; offset = p.offset + n * size; ctype = t }) (element_type layouts p.ctype size)
       else None
 
-  -- members, and elements at a literal index in range
+  -- members, and elements at an index in range
   unfoldable pub part_of : Place_ → Option Part
   part_of (Own v) = if same_kind v.kind Global then option_map (λ d. record { index = v.index; offset = 0; ctype = d.ctype }) (slice_get globals v.index) else None
   part_of (Member' b (more_of-Place_ p end_of-Place_) o) = part_of p >>= member_part o

@@ -15,15 +15,15 @@ use Rattle.step_meaning.specs.TypeRules.{is_scalar}
 use Rattle.step_meaning.specs.Conversions.{same_int_kind}
 use Rattle.typing_rules.specs.declared.fault.TypeFault.TheVariants.{BadInitialiser}
 use Rattle.typing_rules.specs.Checked.{Checked, ◌>>=◌, kept, unless}
-use Rattle.typing_rules.specs.Syntax.{Number, Initialiser, Value, Braces, Initialisers, NoElement, Element}
+use Rattle.typing_rules.specs.Syntax.{Expression, Number, Initialiser, Value, Braces, Initialisers, NoElement, Element}
 use Rattle.typing_rules.specs.Operands.{fitted}
 use Rattle.typing_rules.specs.Environment.{Environment, place_of, bytes_in}
-use Rattle.typing_rules.specs.ConstantExpressions.{initial_value}
+use Rattle.typing_rules.specs.ConstantExpressions.{has_literal_indices, initial_value}
 use Rattle.typing_rules.specs.Nodes.{first_place}
 use Rattle.typing_rules.specs.Expressions.{full}
 
 -- in an environment, where an expression for a cell gives a part of the answer, and a cell that is filled up another
-module _ (g : Environment) (A : Type 0) (given : Place → CType → Expr → Checked A) (filled : CType → A) where
+module _ (g : Environment) (A : Type 0) (given : Expression → Place → CType → Expr → Checked A) (filled : CType → A) where
   -- the types of the elements or members
   abbrev pub members_of : Option (List CType) → List CType
   members_of None = []
@@ -66,7 +66,7 @@ module _ (g : Environment) (A : Type 0) (given : Place → CType → Expr → Ch
       v ← full g x
       _ ← unless (not (is_scalar t)) (BadInitialiser v.first)
       y ← fitted v.first t v
-      a ← given v.first t y
+      a ← given x v.first t y
       Ok (a ∷ [])
     cells t (Braces b xs) =
         if is_scalar t then (all_alone xs >>= (λ u. Err (BadInitialiser (place_of b))))
@@ -92,7 +92,7 @@ zero_of (type.Int k) = if same_int_kind k kind.Int then e.Literal kind.Int (pos 
 zero_of t = e.Null
 
 abbrev pub local_cells : Environment → CType → Initialiser → Checked (List Cell)
-local_cells g = cells g Cell (λ at t x. Ok (t, x)) (λ t. (t, zero_of t))
+local_cells g = cells g Cell (λ x at t y. Ok (t, y)) (λ t. (t, zero_of t))
 
 -- ---- initial values of file scope
 
@@ -100,8 +100,12 @@ abbrev pub zero_value : CType → Constant
 zero_value (type.Int k) = constant.Int (pos 0)
 zero_value t = constant.Null
 
+-- what an expression gives a cell of this type
+abbrev pub given_value : Environment → List Declared → Expression → CType → Expr → Option Constant
+given_value g globals x t y = if has_literal_indices x then initial_value g.layouts globals t y else None
+
 abbrev pub initial_values : Environment → List Declared → CType → Initialiser → Checked (List Constant)
-initial_values g globals = cells g Constant (λ at t x. kept (BadInitialiser at) (initial_value g.layouts globals t x)) zero_value
+initial_values g globals = cells g Constant (λ x at t y. kept (BadInitialiser at) (given_value g globals x t y)) zero_value
 
 abbrev pub uninitialised : Environment → CType → List Constant
 uninitialised g t = map zero_value (object_cells g.layouts t)

@@ -88,7 +88,7 @@ fn shapes(rt: HostRuntime) -> Result<(), Fail> {
 }
 
 /// What a variable of file scope starts with.
-const CONSTANTS: [(&str, &str); 21] = [
+const CONSTANTS: [(&str, &str); 30] = [
     (
         "int x = 1 + 2 * 3; int y = -1; char c = 300; int z = 1 ? 2 : 3; long l = 1 << 3; int e = !1 && 2 || 3 < 4; int main(void) { return 0; }",
         "ok",
@@ -168,6 +168,42 @@ const CONSTANTS: [(&str, &str); 21] = [
     ),
     (
         "struct s { struct s *next; int m; }; struct s v = {&v, 1}; int main(void) { return 0; }",
+        "ok",
+    ),
+    (
+        "int b[3]; int *p = &b[(1)]; int main(void) { return 0; }",
+        "ok",
+    ),
+    (
+        "int b[3]; int *p = &b[(('\\1'))]; int main(void) { return 0; }",
+        "ok",
+    ),
+    (
+        "int b[3]; int *p = &b[+1]; int main(void) { return 0; }",
+        "132 at 1:20",
+    ),
+    (
+        "int b[3]; int *p = &b[(int) 1]; int main(void) { return 0; }",
+        "132 at 1:20",
+    ),
+    (
+        "int b[3]; int *p = &(b[+1]); int main(void) { return 0; }",
+        "132 at 1:20",
+    ),
+    (
+        "struct s { int k[2]; } v[2]; int *p = &v[+1].k[1]; int main(void) { return 0; }",
+        "132 at 1:39",
+    ),
+    (
+        "int b[2][2]; int *p = &b[1][+0]; int main(void) { return 0; }",
+        "132 at 1:23",
+    ),
+    (
+        "int b[3]; int *a[2] = {&b[1], &b[+2]}; int main(void) { return 0; }",
+        "132 at 1:31",
+    ),
+    (
+        "int b[3]; int main(void) { int *p = &b[+1]; return 0; }",
         "ok",
     ),
 ];

@@ -40,6 +40,30 @@ fn nodes_of_a_full_expression(rt: HostRuntime) -> Result<(), Fail> {
     expect_repeated(&rt, beginning, " + 0", 250, "; }", "131 at 1:25")
 }
 
+/// A chain of operators or suffixes may be as long as the text, wherever an expression stands.
+#[test]
+fn long_chains(rt: HostRuntime) -> Result<(), Fail> {
+    let body = "int main(void) { return 0";
+    expect_repeated(&rt, body, "+0", 120_000, "; }", "131 at 1:25")?;
+    expect_repeated(&rt, body, "+0*0", 60_000, "; }", "131 at 1:25")?;
+    let place = "int a[2]; int main(void) { a[0";
+    expect_repeated(
+        &rt,
+        place,
+        "+0",
+        120_000,
+        "] = 1; return 0; }",
+        "131 at 1:28",
+    )?;
+    let call = "int f(int a) { return a; } int main(void) { return f(0";
+    expect_repeated(&rt, call, "+0", 120_000, "); }", "131 at 1:52")?;
+    let member = "struct s { struct s *n; } *p; int main(void) { p";
+    expect_repeated(&rt, member, "->n", 80_000, "; return 0; }", "131 at 1:48")?;
+    let end = "]; int main(void) { return 0; }";
+    expect_repeated(&rt, "int a[1", "+0", 24_000, end, "ok")?;
+    expect_repeated(&rt, "int a[1", "+0", 120_000, end, "131 at 0:0")
+}
+
 /// A source has at most 50,000 weighted nodes.
 #[test]
 fn weighted_nodes(rt: HostRuntime) -> Result<(), Fail> {

@@ -1,10 +1,11 @@
-use Rattle.std.proofs.Common.{◌≡◌, List, Ok, sym, ap, ◌∙◌}
+use Rattle.std.proofs.Common.{◌≡◌, List, None, Ok, sym, ap, ◌∙◌}
+use Rattle.std.specs.Prelude.{if◌then◌else◌}
 use Rattle.step_meaning.specs.declared.value.Value.{Value as Constant}
 use Rattle.step_meaning.specs.declared.program.Layout.{Layout}
 use Rattle.step_meaning.specs.declared.program.Declared.{Declared}
 use Rattle.typing_rules.specs.declared.fault.TypeFault.TheVariants.{BadInitialiser}
 use Rattle.typing_rules.specs.Checked.{kept}
-use Rattle.typing_rules.specs.ConstantExpressions.{initial_value}
+use Rattle.typing_rules.specs.ConstantExpressions.{has_literal_indices, initial_value}
 use Rattle.typing_rules.specs.Initialisers.{cells, zero_value}
 use Rattle.typing_rules.specs.TreesOfDeclarations.{init}
 use Rattle.typing_scopes.specs.Known.{known as seen}
@@ -17,7 +18,7 @@ returns c =
     let g = seen c.args.known.now in
     let t = c.args.t.now in
     let x = init c.args.init.now in
-    let found = λ (ls : List Layout) (gs : List Declared). cells g Constant (λ at t x. kept (BadInitialiser at) (initial_value ls gs t x)) zero_value t x in
+    let found = λ (ls : List Layout) (gs : List Declared). cells g Constant (λ x at t y. kept (BadInitialiser at) (if has_literal_indices x then initial_value ls gs t y else None)) zero_value t x in
     let layouts = c.args.known.now.layouts in
     let globals = c.args.known.now.globals in
     let same : found layouts globals ≡ found c.as_slice.result.now c.as_slice-2.result.now = ap (λ ls. found ls globals) (sym c.as_slice.ensures) ∙ ap (λ gs. found c.as_slice.result.now gs) (sym c.as_slice-2.ensures) in

@@ -1,4 +1,4 @@
-use Rattle.std.proofs.Common.{true, false, sym, ap, ◌∙◌, reverse, refl}
+use Rattle.std.proofs.Common.{true, false, sym, ap, ◌∙◌, reverse}
 use Rattle.std.specs.Option.{is_some}
 use Rattle.step_meaning.specs.declared.value.Cell.TheVariants.{Holds}
 use Rattle.run_state.specs.Registers.{slot_of}

@@ -1,4 +1,4 @@
-use Rattle.std.proofs.Common.{◌≡◌, ◌-◌, ◌≤◌, ◌∙◌, sym, ap, length, arith, take, drop, reverse}
+use Rattle.std.proofs.Common.{◌≡◌, ◌-◌, ◌≤◌, ◌∙◌, sym, ap, length, arith, take}
 use Rattle.std.proofs.lemmas.List.{length-reverse}
 use Rattle.run_state.proofs.StackLaws.{items_below}
 use Rattle.run_state.proofs.stack.Stack.drop_top.Goals as goal

@@ -1,6 +1,5 @@
-use Rattle.std.proofs.Common.{◌≡◌, ◌-◌, ◌≤◌, ◌∙◌, sym, ap, length, arith, take, drop, reverse, []}
+use Rattle.std.proofs.Common.{◌≡◌, ◌-◌, ◌≤◌, ◌∙◌, sym, length, arith, drop}
 use Rattle.std.proofs.lemmas.List.{take_all, length-drop, length-reverse}
-use Rattle.run_turns.specs.Lists.{reversed_onto}
 use Rattle.run_state.proofs.StackLaws.{top_items}
 use Rattle.run_state.proofs.stack.Stack.top.Goals as goal
 

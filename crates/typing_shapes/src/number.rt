@@ -2,7 +2,7 @@
 
 ghost use Rattle.std.specs.Prelude.{◌≡◌};
 ghost use Rattle.typing_rules.specs.TreesOfExpressions as trees;
-ghost use Rattle.typing_initialisers.specs.Numbers as numbers;
+ghost use Rattle.typing_shapes.specs.Numbers as numbers;
 
 use c_grammar::expression::{Assign, BitXor, Choice, Or, Postfix, Primary, Relation, Unary};
 use c_words::chain::Chain;
@@ -15,7 +15,7 @@ pub fn stands_alone<T>(chain: &Chain<T>) -> bool
     chain.rest.as_slice().is_empty()
 }
 
-#[tactic(auto, using(crate::proofs::Numbers::primaries))]
+#[tactic(auto, using(crate::proofs::NumberForms::primaries))]
 fn of_primary(e: &Primary) -> Option<Leaf>
     ensures { result ≡ numbers.number_leaf (trees.primary e.now) }
 {
@@ -28,7 +28,7 @@ fn of_primary(e: &Primary) -> Option<Leaf>
     }
 }
 
-#[tactic(auto, using(crate::proofs::Numbers::number_postfix))]
+#[tactic(auto, using(crate::proofs::NumberForms::number_postfix))]
 fn of_postfix(e: &Postfix) -> Option<Leaf>
     ensures { result ≡ numbers.number_leaf (trees.postfix e.now) }
 {
@@ -39,7 +39,7 @@ fn of_postfix(e: &Postfix) -> Option<Leaf>
     }
 }
 
-#[tactic(auto, using(crate::proofs::Numbers::unaries))]
+#[tactic(auto, using(crate::proofs::NumberForms::unaries))]
 fn of_unary(e: &Unary) -> Option<Leaf>
     ensures { result ≡ numbers.number_leaf (trees.unary e.now) }
 {
@@ -72,7 +72,7 @@ fn is_lone_bit_xor(e: &BitXor) -> bool
 }
 
 /// Whether no operator of a chain joins operands.
-fn is_lone_or(e: &Or) -> bool
+pub fn is_lone_or(e: &Or) -> bool
     ensures { result ≡ numbers.lone_or e.now }
 {
     let bit_or = &e.0.first.0.first;
@@ -81,7 +81,7 @@ fn is_lone_or(e: &Or) -> bool
             && (stands_alone(&bit_or.0) && is_lone_bit_xor(&bit_or.0.first)))
 }
 
-#[tactic(auto, using(crate::proofs::Numbers::number_or))]
+#[tactic(auto, using(crate::proofs::NumberForms::number_or))]
 fn of_or(e: &Or) -> Option<Leaf>
     ensures { result ≡ numbers.number_leaf (trees.or e.now) }
 {
@@ -96,7 +96,7 @@ fn of_or(e: &Or) -> Option<Leaf>
     }
 }
 
-#[tactic(auto, using(crate::proofs::Numbers::choices))]
+#[tactic(auto, using(crate::proofs::NumberForms::choices))]
 fn of_choice(e: &Choice) -> Option<Leaf>
     ensures { result ≡ numbers.number_leaf (trees.choice e.now) }
 {
@@ -107,7 +107,7 @@ fn of_choice(e: &Choice) -> Option<Leaf>
 }
 
 /// The token of an expression that is a number, without parentheses.
-#[tactic(auto, using(crate::proofs::Numbers::assigns))]
+#[tactic(auto, using(crate::proofs::NumberForms::assigns))]
 pub fn number(e: &Assign) -> Option<Leaf>
     ensures { result ≡ numbers.number_leaf (trees.assign e.now) }
 {

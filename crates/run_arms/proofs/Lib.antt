@@ -1,0 +1,3 @@
+pub mod ExpressionViews
+pub mod StatementViews
+pub mod SizeLaws

@@ -1,0 +1,4 @@
+pub mod Products
+pub mod Differences
+pub mod BlockSizes
+pub mod SizeLaws
