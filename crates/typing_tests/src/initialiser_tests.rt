@@ -175,7 +175,7 @@ const CONSTANTS: [(&str, &str); 30] = [
         "ok",
     ),
     (
-        "int b[3]; int *p = &b[(('\\1'))]; int main(void) { return 0; }",
+        "int b[99]; int *p = &b[(('A'))]; int main(void) { return 0; }",
         "ok",
     ),
     (
