@@ -5,6 +5,7 @@ pub mod RegionLaws
 pub mod StoreLaws
 pub mod Seeing
 pub mod TypeCells
+pub mod SizedTypes
 pub mod StoreReads
 pub mod Keeping
 pub mod ChunkLaws

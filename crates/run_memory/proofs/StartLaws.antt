@@ -2,11 +2,13 @@
 use Rattle.std.proofs.Common.{◌≡◌, ◌⊎◌, ℕ, zero, suc, ◌+◌, ◌<◌, ◌≤◌, List, [], ◌∷◌, length, map, take, get_or, refl, sym, ap, ◌∙◌, inl, inr, arith}
 use Rattle.std.specs.List.{AllByRecursion}
 use Rattle.step_meaning.specs.declared.value.Value.{Value}
+use Rattle.step_meaning.specs.declared.value.CType.{CType}
+use Rattle.step_meaning.specs.declared.value.CType.TheVariants as type
 use Rattle.step_meaning.specs.declared.value.Cell.TheVariants.{Holds}
 use Rattle.step_meaning.specs.declared.program.Layout.{Layout}
 use Rattle.step_meaning.specs.declared.program.Declared.{Declared}
 use Rattle.step_meaning.specs.Memory.{Block, at_block, set_cell, filled, empty_block}
-use Rattle.step_meaning.specs.Runs.{global_blocks}
+use Rattle.step_meaning.specs.Runs.{global_blocks, ghost_block, ghost_start}
 use Rattle.run_memory.specs.Cells.{ValueIsNumbered}
 use Rattle.cell_pool.specs.Region.{Region}
 use Rattle.run_memory.specs.declared.cell.PoolCell.{PoolCell}
@@ -109,3 +111,20 @@ start_storage bs cs n m calls e f = rw (e, f) refl
 pub storage_is : (p : Region PoolCell) (g lo ac st nu he : List ℕ) (calls k n : ℕ) (cs : List Block) → lo ≡ [] → ac ≡ [] → st ≡ [] → nu ≡ [] → he ≡ [] → k ≡ calls → start_blocks p g ≡ cs → length p.blocks ≡ n
     → storage_of p g lo ac st nu he k ≡ record { memory = record { globals = cs; frames = []; heap = [] }; chunk_limit = n; call_limit = calls }
 storage_is p g lo ac st nu he calls k n cs a b c d e f h i = rw (b, d, f) (start_storage (start_blocks p g) cs (length p.blocks) n calls h i)
+
+-- ---- ghost variables
+
+pub ghosts_filled : (layouts : List Layout) (ds : List Declared) → global_blocks layouts ds (map (λ d. ghost_start d.ctype ∷ []) ds) ≡ map (ghost_block layouts) ds
+ghosts_filled layouts [] = refl
+ghosts_filled layouts (d ∷ ds) = ap (λ r. ghost_block layouts d ∷ r) (ghosts_filled layouts ds)
+
+ghost_numbered : (t : CType) → ValueIsNumbered (ghost_start t)
+ghost_numbered (type.Int k) = tt
+ghost_numbered type.Void = tt
+ghost_numbered (type.Pointer' b t) = tt
+ghost_numbered (type.Array' b t n) = tt
+ghost_numbered (type.Struct n) = tt
+
+pub ghosts_initial : (ds : List Declared) → AllByRecursion AreInitial (map (λ d. ghost_start d.ctype ∷ []) ds)
+ghosts_initial [] = tt
+ghosts_initial (d ∷ ds) = (record { few = omega arith; numbered = (ghost_numbered d.ctype, tt) }, ghosts_initial ds)

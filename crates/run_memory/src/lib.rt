@@ -4,6 +4,7 @@
 mod cell;
 mod fill;
 mod frames;
+mod ghosts;
 mod heap;
 mod laws;
 mod locate;

@@ -5,7 +5,7 @@ ghost use Rattle.std.specs.List.{AllByRecursion};
 ghost use Rattle.step_meaning.specs.declared.value.Cell.TheVariants.{Holds};
 ghost use Rattle.step_meaning.specs.Memory.{at_block, empty_block, filled, set_cell, unset_cells};
 ghost use Rattle.step_meaning.specs.Limits.{chunks_for};
-ghost use Rattle.step_meaning.specs.Runs.{start_memory};
+ghost use Rattle.step_meaning.specs.Runs.{global_blocks, start_memory};
 ghost use Rattle.step_meaning.specs.Types.{object_cells};
 ghost use Rattle.cell_pool.specs.Region.{live_chunks};
 ghost use Rattle.run_memory.specs.Cells.{ValueIsNumbered};
@@ -164,18 +164,20 @@ fn initialise_all(pool: &mut Pool<PoolCell<'_>>, globals: &[u32], lists: &[Items
 }
 
 impl<'a> Store<'a> {
-    /// The store of the variables of file scope.
-    fn build(
+    /// The store of variables that last as long as the program, with their first values.
+    pub(crate) fn build(
         alloc: Global,
-        core: &'a Core,
+        layouts: &'a [Layout],
+        variables: &'a [Declared],
+        initial: &[Items<Value>],
         chunks: u32,
         calls: u32,
     ) -> Result<Store<'a>, AllocError>
         requires chunks { (1 ≤ chunks) × (chunks ≤ 1048576) }
-        requires sized { AllByRecursion (λ d. IsBlockSized core.now.layouts d.ctype) core.now.globals }
-        requires initial { AllByRecursion AreInitial core.now.initial }
-        requires room { variables_chunks core.now.layouts core.now.globals ≤ chunks }
-        ensures { IfOk result (λ s. s ≡ record { memory = start_memory core.now; chunk_limit = chunks; call_limit = calls }) }
+        requires sized { AllByRecursion (λ d. IsBlockSized layouts.now d.ctype) variables.now }
+        requires initial { AllByRecursion AreInitial initial.now }
+        requires room { variables_chunks layouts.now variables.now ≤ chunks }
+        ensures { IfOk result (λ s. s ≡ record { memory = record { globals = global_blocks layouts.now variables.now initial.now; frames = []; heap = [] }; chunk_limit = chunks; call_limit = calls }) }
     {
         let space = chunks as usize;
         let depth = calls as usize;
@@ -191,13 +193,8 @@ impl<'a> Store<'a> {
             ctype: None,
         };
         let mut pool = Pool::make(alloc, chunks, blank)?;
-        push_globals(
-            &mut pool,
-            &mut globals,
-            core.layouts.as_slice(),
-            core.globals.as_slice(),
-        );
-        initialise_all(&mut pool, globals.as_slice(), core.initial.as_slice());
+        push_globals(&mut pool, &mut globals, layouts, variables);
+        initialise_all(&mut pool, globals.as_slice(), initial);
         Ok(Store {
             pool,
             globals,
@@ -223,10 +220,19 @@ impl<'a> Store<'a> {
         ensures made { IfOk result (λ s. s ≡ record { memory = start_memory core.now; chunk_limit = chunks; call_limit = calls }) }
         ensures full { (result ≡ Err MakeFault.GlobalsFull) ↔ (chunks < variables_chunks core.now.layouts core.now.globals) }
     {
-        if room_left(core.layouts.as_slice(), core.globals.as_slice(), chunks).is_none() {
+        let layouts = core.layouts.as_slice();
+        let variables = core.globals.as_slice();
+        if room_left(layouts, variables, chunks).is_none() {
             return Err(MakeFault::GlobalsFull);
         }
-        match Store::build(alloc, core, chunks, calls) {
+        match Store::build(
+            alloc,
+            layouts,
+            variables,
+            core.initial.as_slice(),
+            chunks,
+            calls,
+        ) {
             Ok(store) => Ok(store),
             Err(_) => Err(MakeFault::Memory),
         }

@@ -1,0 +1,4 @@
+pub mod Vocabulary
+pub mod Trees
+pub mod TermReading
+pub mod Exactness

@@ -1,0 +1,4 @@
+pub mod Coders
+pub mod Readers
+pub mod Forms
+pub mod Exactness
