@@ -1,0 +1,4 @@
+pub mod Runs
+pub mod Combining
+pub mod TermRuns
+pub mod PredicateRuns

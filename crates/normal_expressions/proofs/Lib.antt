@@ -1,0 +1,6 @@
+pub mod Lists
+mod TypesOfObjects
+mod Calls
+mod Splits
+pub mod Forms
+pub mod Arguments
