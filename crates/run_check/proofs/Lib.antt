@@ -1,0 +1,16 @@
+pub mod GoingLaws
+pub mod ViewLaws
+pub mod RunningLaws
+pub mod OutcomeLaws
+pub mod FreshLaws
+pub mod SourceLaws
+pub mod EndLaws
+pub mod MemoryLaws
+pub mod TurnLaws
+pub mod Pops
+pub mod ReadLaws
+pub mod StepLaws
+pub mod WriteLaws
+pub mod BeginLaws
+pub mod NextLaws
+pub mod AllocateLaws

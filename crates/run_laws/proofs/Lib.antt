@@ -1,0 +1,14 @@
+pub mod AllocatedKept
+pub mod AllocatedGrows
+pub mod TypedTurns
+pub mod Parts
+pub mod Staying
+pub mod Leaving
+pub mod Following
+pub mod Entering
+pub mod Granted
+pub mod Turned
+pub mod Reading
+pub mod Ending
+pub mod Beginning
+pub mod Actions

@@ -1,0 +1,3 @@
+pub mod Heights
+pub mod Rooms
+pub mod Running
